@@ -1,0 +1,4 @@
+pub mod Settings
+pub mod Meaning
+pub mod Taken
+pub mod Setup
