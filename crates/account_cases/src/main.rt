@@ -1,4 +1,6 @@
 //! Accounts of texts that inspect must refuse, and of the smallest ones.
+#![tactic(auto)]
+
 use inspection::account::account;
 use std::io::Write;
 

@@ -2,6 +2,8 @@
 //!
 //! Reads the text from standard input and writes the account to standard output. Volumes are taken
 //! to have two tracks; the argument `tracks=1` says that they have one.
+#![tactic(auto)]
+
 use inspection::account::account;
 use std::env;
 use std::io::{Read, Write};

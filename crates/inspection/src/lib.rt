@@ -1,4 +1,6 @@
 //! The account of a cassette: a line for each item, totals, or the words of a refusal.
+#![tactic(auto)]
+
 pub mod account;
 mod data;
 mod item;

@@ -3,6 +3,8 @@
 //! `make Hdr|1|0|VOL1|PAYROLL |73366|030|1|USER` makes a label of kind, section, block count, volume,
 //! file identifier, creation date, retention days, data code and user, and reads it again.
 //! `read TEXT` reads the text as a label, and prints what would make it.
+#![tactic(auto)]
+
 ghost use Rattle.std.specs.Prelude.{◌+◌, ◌≤◌};
 
 use labels::fields::Fields;

@@ -1,4 +1,6 @@
 //! The 32-byte labels of the Compact System: made by value, and read as borrowed parts.
+#![tactic(auto)]
+
 pub mod characters;
 pub mod fields;
 pub mod kind;

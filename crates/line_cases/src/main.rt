@@ -1,5 +1,6 @@
 //! Cases of the line transport, one printed line each: texts that must be refused, texts that must
 //! be taken, settings, room, marker, head, reads, and long tapes.
+#![tactic(auto)]
 
 mod bad;
 mod common;

@@ -1,4 +1,6 @@
 //! The law of the line transport: which texts it takes.
+#![tactic(auto)]
+
 ghost use Rattle.std.specs.Prelude.{◌≡◌, true};
 ghost use Rattle.line_law.specs.Law.{EveryTextTaken, NoOtherTaken};
 

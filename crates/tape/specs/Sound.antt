@@ -1,5 +1,5 @@
 -- What the meaning of every transport keeps. Assumes nothing.
-use Rattle.std.specs.Prelude.{◌≡◌, ℕ, ◌+◌, ◌-◌, ◌/◌, ◌%◌, ◌<◌, ◌≤◌, Bool, true, false, ◌&&◌, List, [], ◌∷◌, length}
+use Rattle.std.specs.Prelude.{◌≡◌, ◌+◌, ◌-◌, ◌%◌, ◌<◌, ◌≤◌, Bool, true, false, ◌&&◌, List, [], ◌∷◌, length}
 use Rattle.tape.specs.Items.{Item, proper}
 use Rattle.tape.specs.Tape.{Track, Tape, here, volumes, most_tracks, most_volumes, most_items, last_marker, writes_after}
 

@@ -1,4 +1,6 @@
 //! The tape: items, places, refusals, and the interface of a transport with its meaning.
+#![tactic(auto)]
+
 pub mod bounds;
 pub mod item;
 pub mod laws;

@@ -1,5 +1,7 @@
 //! The refusals with their numbers and layers, the place of no transport, and the sizes that a set
 //! may have.
+#![tactic(auto)]
+
 use tape::bounds::is_size;
 use tape::refusal::{Layer, Reason};
 

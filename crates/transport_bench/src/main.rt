@@ -36,6 +36,8 @@
 //! The bench begins with a transport as of a bare `new`, and a `new` that is refused keeps the old
 //! one. A number that cannot be read is 0, and digits that cannot be read give no byte. Anything else
 //! is answered `no such command`. That there is memory for the script's own bytes is taken for granted.
+#![tactic(auto)]
+
 mod bench;
 mod own;
 mod words;

@@ -1,15 +1,20 @@
--- The size as the code tests it, and what a lawful size gives. Assumes nothing.
-use Rattle.std.proofs.Common.{◌≡◌, sym, ◌∙◌, rules}
-use Rattle.tape.specs.Tape.{lawful_size}
+-- What a lawful size gives. Assumes nothing.
+use Rattle.std.proofs.Common.{◌≡◌, true, false, ◌&&◌, leb, sym, ◌∙◌, ap}
+use Rattle.tape.specs.Tape.{most_volumes}
 use Rattle.tape.proofs.StaysSound.{stays_sound, lawful_starts_sound}
 use Rattle.tape.proofs.bounds.is_size.Goals as goal
 
-pub returns-then-is-within : goal.returns-then-is-within
-returns-then-is-within c =
-    let size : c.is-within-then-is-within.result ≡ lawful_size c.args.tracks c.args.volumes = search rules in
-    record { size = size; starts = λ told. lawful_starts_sound c.args.tracks c.args.volumes (sym size ∙ told); stays = stays_sound }
+pub returns-then-is_within-clause-stays : goal.returns-then-is_within-clause-stays
+returns-then-is_within-clause-stays c = stays_sound
 
-pub returns-else-is-within : goal.returns-else-is-within
-returns-else-is-within c =
-    let size : c.is-within.result ≡ lawful_size c.args.tracks c.args.volumes = search rules in
-    record { size = size; starts = λ told. lawful_starts_sound c.args.tracks c.args.volumes (sym size ∙ told); stays = stays_sound }
+pub returns-then-is_within-clause-starts : goal.returns-then-is_within-clause-starts
+returns-then-is_within-clause-starts c told =
+    lawful_starts_sound c.args.tracks c.args.volumes
+    (ap (λ b. b && (leb 1 c.args.volumes && leb c.args.volumes most_volumes)) (sym c.is_within.ensures ∙ c.if-is_within.true)
+    ∙ sym c.is_within-then-is_within.ensures ∙ told)
+
+pub returns-else-is_within-clause-stays : goal.returns-else-is_within-clause-stays
+returns-else-is_within-clause-stays c = stays_sound
+
+pub returns-else-is_within-clause-starts : goal.returns-else-is_within-clause-starts
+returns-else-is_within-clause-starts c told = absurd (let e : true ≡ false = sym told ∙ c.if-is_within.false in cc)
