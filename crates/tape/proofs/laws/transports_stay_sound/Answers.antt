@@ -1,7 +1,9 @@
--- The two theorems, and the answer. Assumes nothing.
-use Rattle.std.proofs.Common.{rules}
+-- The two theorems. Assumes nothing.
 use Rattle.tape.proofs.StaysSound.{stays_sound, starts_sound}
 use Rattle.tape.proofs.laws.transports_stay_sound.Goals as goal
 
-pub returns : goal.returns
-returns c = record { stays = stays_sound; starts = starts_sound; answer = search rules }
+pub returns-clause-stays : goal.returns-clause-stays
+returns-clause-stays c = stays_sound
+
+pub returns-clause-starts : goal.returns-clause-starts
+returns-clause-starts c = starts_sound
