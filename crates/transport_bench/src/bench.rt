@@ -2,6 +2,7 @@
 use crate::words::{done, either, number, put_hex, show_bytes, show_kind, show_place, yes};
 use std::io;
 use tape::item::ItemRef;
+use tape::status::Status;
 use tape::transport::Transport;
 
 // A mark, made by a function since the checker wants to see its reference read.
@@ -46,7 +47,7 @@ fn read<T: Transport>(rt: &HostRuntime, tape: &mut T, size: &str) -> io::Result<
 }
 
 fn ask<T: Transport>(rt: &HostRuntime, tape: &T) -> io::Result<()> {
-    let status = tape.status();
+    let status = Status::of(tape);
     show_place(rt, status.place)?;
     let tracks = status.tracks;
     let marked = yes(status.marked);

@@ -7,7 +7,7 @@ use std::io;
 use std::io::Write;
 use tape::place::Place;
 use tape::refusal::SetupError;
-use tape::transport::Transport;
+use tape::status::Status;
 
 // The number behind a name, up to the next space.
 fn setting(argument: &str, name: &str, usual: usize) -> usize {
@@ -47,7 +47,7 @@ const FRONT: Place = Place {
 
 // Whether it is as it was made: no text, no item, one volume, the head at its front.
 fn is_blank(line: &LineTransport) -> bool {
-    let status = line.status();
+    let status = Status::of(line);
     line.text().is_empty()
         && !status.recorded
         && !status.marked
