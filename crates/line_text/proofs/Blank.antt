@@ -1,11 +1,10 @@
 -- Which tracks have items, by their counts. Assumes nothing.
-use Rattle.std.proofs.Common.{◌≡◌, ℕ, zero, suc, ◌+◌, ◌-◌, ◌<◌, ◌≤◌, Bool, true, false, not, ◌&&◌, eqb, ltb, leb, List, [], ◌∷◌, map, length, get_or, drop, sym, refl, ap, ◌∙◌, subst, ⊎_elim, arith, length-drop, get_or-drop, le-ltb, lt-ltb, le-leb}
+use Rattle.std.proofs.Common.{◌≡◌, ℕ, zero, suc, ◌+◌, ◌-◌, ◌<◌, ◌≤◌, true, false, not, ltb, leb, List, [], ◌∷◌, length, get_or, drop, sym, refl, ap, ◌∙◌, ⊎_elim, arith, length-drop, get_or-drop, le-ltb, lt-ltb, le-leb}
 use lib.ListN.{length-map}
 use borrow.Author.Tests.{lt-leb}
 use Rattle.std.proofs.lemmas.List.{get_or-map}
 use Rattle.std.proofs.lemmas.Bool.{and_from, and_left, and_right}
 use Rattle.std.proofs.str.Laws.{order}
-use Rattle.tape.specs.Items.{Item}
 use Rattle.tape.specs.Tape.{Track, blank_track, no_items, all_blank}
 use Rattle.line_text.specs.declared.span.Span.{Span}
 use Rattle.line_text.specs.Layout.{items_in, blank_span, span_items, track_of, image_of, NoneBehind, SomeThere}

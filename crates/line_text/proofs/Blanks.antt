@@ -1,13 +1,13 @@
 -- Blank tracks behind the others. Assumes nothing.
-use Rattle.std.proofs.Common.{◌≡◌, ℕ, zero, suc, ◌+◌, ◌<◌, ◌≤◌, Bool, true, false, List, [], ◌∷◌, ◌++◌, map, length, get_or, take, drop, replicate, sym, refl, ap, ◌∙◌, subst, ⊎_elim, append-nil, arith, length-append}
-use lib.ListN.{length-map, length-replicate}
+use Rattle.std.proofs.Common.{◌≡◌, ℕ, zero, suc, ◌<◌, ◌≤◌, true, List, [], ◌∷◌, ◌++◌, map, length, get_or, take, replicate, sym, refl, ap, ◌∙◌, subst, ⊎_elim, arith}
+use lib.ListN.{length-map}
 use lib.Seq.{take-append-le}
 use Rattle.std.proofs.lemmas.List.{map-append, get_or_past}
 use Rattle.std.proofs.str.Laws.{order}
 use Rattle.tape.specs.Tape.{Track, blank_track}
 use Rattle.tape.specs.Sound.{all_proper}
 use Rattle.line_text.specs.declared.span.Span.{Span}
-use Rattle.line_text.specs.Layout.{items_in, lines_of, text_from, blank_span, span_items, track_of, image_of, sound_span, Placed, Propers, AllSound, NoneBehind, Unmarked}
+use Rattle.line_text.specs.Layout.{items_in, lines_of, text_from, blank_span, span_items, track_of, image_of, Placed, NoneBehind}
 use Rattle.line_text.proofs.Laid.{Laid}
 
 -- what is not there reads as the default, so more of it behind changes no reading

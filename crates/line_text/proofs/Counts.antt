@@ -1,12 +1,10 @@
 -- A span's numbers after one more item. Assumes nothing.
-use Rattle.std.proofs.Common.{◌≡◌, ℕ, zero, suc, ◌+◌, ◌-◌, ◌^◌, ◌<◌, ◌≤◌, min, Bool, true, false, cond, ◌&&◌, ◌||◌, eqb, ltb, leb, ◌≢◌, sym, refl, ap, ◌∙◌, subst, arith, ltb-true, lt-ltb, eq-eqb, eqb-true, le-leb, leb-true}
+use Rattle.std.proofs.Common.{◌≡◌, ℕ, suc, ◌+◌, ◌-◌, ◌<◌, ◌≤◌, Bool, true, false, cond, ◌&&◌, ◌||◌, eqb, ltb, leb, ◌≢◌, sym, refl, ap, ◌∙◌, arith, ltb-true, lt-ltb, eq-eqb, eqb-true, le-leb, leb-true}
 use borrow.Author.Tests.{eqb-false, lt-leb, clash}
 use Rattle.std.proofs.lemmas.Bool.{and_parts, and_from, and_right}
-use Rattle.tape.specs.Items.{Item, proper, short}
-use Rattle.tape.specs.Tape.{Track, Choice, meets_at, takes_item, most_items, first_marker, last_marker, writes_after}
-use Rattle.tape.specs.Sound.{SoundTrack, all_proper}
+use Rattle.tape.specs.Tape.{most_items, first_marker, last_marker, writes_after}
 use Rattle.line_text.specs.declared.span.Span.{Span}
-use Rattle.line_text.specs.Layout.{sound_span, blank_span}
+use Rattle.line_text.specs.Layout.{sound_span}
 use Rattle.line_text.specs.Spans.{one_more, span_after}
 
 -- the same as facts

@@ -1,17 +1,15 @@
 -- What the layout of a text gives: where an item's line stands, and what one more line does. Assumes nothing.
-use Rattle.std.proofs.Common.{◌≡◌, ℕ, zero, suc, ◌+◌, ◌/◌, ◌%◌, ◌<◌, ◌≤◌, Bool, true, false, cond, not, ◌&&◌, eqb, ltb, leb, ◌⊎◌, List, [], ◌∷◌, ◌++◌, map, length, get_or, take, drop, set, sym, refl, ap, ◌∙◌, subst, inl, inr, ⊎_elim, append_assoc, append-nil, add-zero, zero-add, arith, length-append, length-drop, length-set, take-append-drop, length-take, drop-cons, get_or-set_other, get_or-set_same, drop-drop, drop-set-lt}
+use Rattle.std.proofs.Common.{◌≡◌, ℕ, suc, ◌+◌, ◌/◌, ◌%◌, ◌<◌, ◌≤◌, List, [], ◌∷◌, ◌++◌, map, length, get_or, take, drop, sym, refl, ap, ◌∙◌, append_assoc, zero-add, arith, length-append, length-drop, take-append-drop, length-take, drop-cons, drop-drop}
 use lib.ListN.{length-map}
-use lib.Seq.{drop-append_seam, drop-append-le, drop-append-add, take-set-le, map-set}
+use lib.Seq.{drop-append_seam}
 use Rattle.std.proofs.lemmas.List.{get_or-map, take_more}
-use Rattle.std.proofs.lemmas.Bool.{and_parts, and_from}
-use Rattle.tape.specs.Items.{Item, mark, proper}
-use Rattle.tape.specs.Tape.{Track, blank_track, all_blank}
-use Rattle.tape.specs.Sound.{all_proper}
+use Rattle.tape.specs.Items.{Item, mark}
+use Rattle.tape.specs.Tape.{Track, blank_track}
 use Rattle.line_text.specs.declared.span.Span.{Span}
 use Rattle.line_text.specs.Lines.{line, line_size}
 use Rattle.line_text.proofs.OneLine.{length_line}
-use Rattle.line_text.specs.Layout.{items_in, lines_of, text_from, blank_span, span_items, track_of, image_of, Whole, Placed, Propers}
-use Rattle.line_text.proofs.Rows.{all_small, length_items_in, items_in_small, all_small_push, all_proper_push, items_of_own_lines, lines_append, lines_push, text_split, text_blank}
+use Rattle.line_text.specs.Layout.{lines_of, text_from, blank_span, span_items, track_of, image_of, Whole, Placed, Propers}
+use Rattle.line_text.proofs.Rows.{length_items_in, lines_append, lines_push, text_split}
 
 -- two functions that agree on a list's elements make the same list of it
 pub map_agrees : {X Y : Type 0} (f g : X → Y) (xs : List X) (d : X) → ((k : ℕ) → k < length xs → f (get_or xs k d) ≡ g (get_or xs k d)) → map f xs ≡ map g xs

@@ -1,17 +1,17 @@
 -- One more line at the end of a text. Assumes nothing.
-use Rattle.std.proofs.Common.{◌≡◌, ℕ, zero, suc, ◌+◌, ◌/◌, ◌%◌, ◌<◌, ◌≤◌, Bool, true, false, cond, eqb, ◌≢◌, ◌⊎◌, List, [], ◌∷◌, ◌++◌, map, length, get_or, take, drop, set, sym, refl, ap, ◌∙◌, subst, inl, inr, ⊎_elim, append_assoc, append-nil, zero-add, arith, length-append, length-set, get_or-set_other, get_or-set_same, drop-set-lt, ne_eqb}
+use Rattle.std.proofs.Common.{◌≡◌, ℕ, zero, suc, ◌+◌, ◌/◌, ◌%◌, ◌<◌, ◌≤◌, true, cond, eqb, ◌≢◌, ◌⊎◌, List, [], ◌∷◌, ◌++◌, length, get_or, take, drop, set, sym, refl, ap, ◌∙◌, subst, inl, inr, ⊎_elim, append_assoc, append-nil, zero-add, arith, length-append, length-set, get_or-set_other, get_or-set_same, drop-set-lt, ne_eqb}
 use lib.ListN.{length-map}
 use lib.Seq.{drop-append_seam, drop-append-le, take-set-le, map-set}
 use Rattle.std.proofs.iter.Next.{second_way}
 use Rattle.std.proofs.lemmas.List.{length_push}
 use Rattle.std.proofs.str.Laws.{order}
-use Rattle.tape.specs.Items.{Item, mark, proper}
-use Rattle.tape.specs.Tape.{Track, blank_track, all_blank}
+use Rattle.tape.specs.Items.{Item, proper}
+use Rattle.tape.specs.Tape.{Track, blank_track}
 use Rattle.tape.specs.Sound.{all_proper}
 use Rattle.line_text.specs.declared.span.Span.{Span}
 use Rattle.line_text.specs.Lines.{line, small_item}
 use Rattle.line_text.specs.Layout.{items_in, lines_of, text_from, blank_span, span_items, track_of, image_of}
-use Rattle.line_text.proofs.Rows.{all_small, length_items_in, items_in_small, all_small_push, all_proper_push, items_of_own_lines, lines_push, text_split, text_blank}
+use Rattle.line_text.proofs.Rows.{length_items_in, items_in_small, all_small_push, all_proper_push, items_of_own_lines, lines_push, text_split, text_blank}
 use Rattle.line_text.proofs.Laid.{Laid, map_agrees, track_at, lines_at}
 use Rattle.line_text.proofs.Blank.{blank_past}
 

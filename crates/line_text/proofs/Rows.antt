@@ -1,12 +1,11 @@
 -- Lines one after the other: the items of a row of lines, and the text of a list of tracks. Assumes nothing.
-use Rattle.std.proofs.Common.{◌≡◌, ℕ, zero, suc, ◌+◌, ◌/◌, ◌%◌, ◌<◌, ◌≤◌, Bool, true, false, ◌&&◌, List, [], ◌∷◌, ◌++◌, length, get_or, take, drop, set, sym, refl, ap, ◌∙◌, subst, append_assoc, append-nil, add-zero, arith, length-append, get_or-set_same, drop-set-lt, drop_at}
-use lib.Seq.{drop-append_seam, take-set-le}
+use Rattle.std.proofs.Common.{◌≡◌, ℕ, zero, suc, ◌+◌, ◌/◌, ◌%◌, ◌<◌, Bool, true, ◌&&◌, List, [], ◌∷◌, ◌++◌, length, get_or, take, drop, sym, refl, ap, ◌∙◌, append_assoc, append-nil, add-zero, arith, drop_at}
 use borrow.Author.Tests.{clash}
 use Rattle.std.proofs.lemmas.Bool.{and_parts, and_from}
 use Rattle.tape.specs.Items.{Item, proper}
 use Rattle.tape.specs.Tape.{Track, blank_track, no_items, all_blank}
 use Rattle.tape.specs.Sound.{all_proper}
-use Rattle.line_text.specs.Lines.{line, line_size, item_in, size_of_line_in, small_item}
+use Rattle.line_text.specs.Lines.{line, size_of_line_in, small_item}
 use Rattle.line_text.specs.Layout.{items_in, lines_of, text_from}
 use Rattle.line_text.proofs.OneLine.{length_line, item_of_own_line, size_of_own_line, item_in_small}
 

@@ -1,5 +1,5 @@
 -- The line of an item, and an item read off its line. Assumes nothing.
-use Rattle.std.specs.Prelude.{ℕ, zero, suc, ◌+◌, ◌-◌, ◌*◌, ◌/◌, ◌%◌, Bool, true, false, cond, ◌&&◌, List, [], ◌∷◌, ◌++◌, length, drop, codes, ◌==◌, nat_le, nat_lt, slice_index}
+use Rattle.std.specs.Prelude.{ℕ, zero, suc, ◌+◌, ◌-◌, ◌*◌, ◌/◌, ◌%◌, Bool, true, cond, ◌&&◌, List, [], ◌∷◌, ◌++◌, length, drop, codes, ◌==◌, nat_le, nat_lt, slice_index}
 use Rattle.tape.specs.Items.{Item, mark, block}
 use Rattle.tape.specs.declared.item.Kind.{Kind}
 use Rattle.tape.specs.declared.item.Kind.TheVariants as told
