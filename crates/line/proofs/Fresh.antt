@@ -1,10 +1,10 @@
 -- A blank text and the blank tracks of one volume. Assumes nothing.
-use Rattle.std.proofs.Common.{◌≡◌, ℕ, suc, ◌+◌, ◌-◌, ◌*◌, ◌/◌, ◌%◌, ◌<◌, ◌≤◌, true, false, List, [], ◌++◌, length, get_or, replicate, sym, refl, ap, ◌∙◌, subst, subst₂, suc-mul, arith}
+use Rattle.std.proofs.Common.{◌≡◌, ℕ, suc, ◌+◌, ◌-◌, ◌*◌, ◌/◌, ◌%◌, ◌≤◌, List, [], length, get_or, replicate, sym, refl, ap, ◌∙◌, subst₂, suc-mul, arith}
 use native.Mathlib.Nat.{mod_self, div_self}
 use lib.ListN.{length-replicate}
 use Rattle.tape.specs.Tape.{blank_track, first_marker}
 use Rattle.line_text.specs.declared.span.Span.{Span}
-use Rattle.line_text.specs.Layout.{items_in, text_from, blank_span, image_of, AllSound, NoneBehind, SomeThere, HeadInside, HeadPlaced, Unmarked, sound_span}
+use Rattle.line_text.specs.Layout.{text_from, blank_span, image_of, AllSound, NoneBehind, SomeThere, HeadInside, HeadPlaced, Unmarked, sound_span}
 use Rattle.line_text.proofs.Laid.{Laid}
 use Rattle.line_text.proofs.Blanks.{span_with_blanks, laid_with_blanks, image_with_blanks}
 

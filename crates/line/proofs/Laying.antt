@@ -1,19 +1,19 @@
 -- A recorded item laid on a track of a line transport. Assumes nothing.
-use Rattle.std.proofs.Common.{◌≡◌, ℕ, suc, ◌+◌, ◌/◌, ◌%◌, ◌<◌, ◌≤◌, Bool, true, false, cond, eqb, List, [], ◌∷◌, ◌++◌, length, get_or, drop, set, vec_items, sym, refl, ap, ◌∙◌, subst, arith}
+use Rattle.std.proofs.Common.{◌≡◌, ℕ, suc, ◌+◌, ◌/◌, ◌%◌, ◌<◌, ◌≤◌, true, [], ◌∷◌, ◌++◌, length, get_or, drop, set, vec_items, sym, refl, ap, ◌∙◌, arith}
 use borrow.Author.Tests.{clash}
 use Rattle.tape.specs.Items.{Item, proper}
-use Rattle.tape.specs.Tape.{Track, Tape, blank_track, most_items, writes_after}
+use Rattle.tape.specs.Tape.{Track, blank_track, most_items, writes_after}
 use Rattle.line_text.specs.declared.span.Span.{Span}
 use Rattle.line_text.specs.Lines.{line, small_item}
-use Rattle.line_text.specs.Layout.{blank_span, track_of, image_of, span_items, tape_in}
+use Rattle.line_text.specs.Layout.{track_of, span_items, tape_in}
 use Rattle.line_text.specs.Spans.{recorded_span}
 use Rattle.line_text.proofs.Counts.{counts_on, sound_from}
 use Rattle.line_text.proofs.Laid.{track_at}
-use Rattle.line_text.proofs.Rows.{length_items_in}
+use Rattle.line_text.specs.Facts.{length_items_in}
 use Rattle.line.specs.declared.line_transport.LineTransport.{LineTransport}
 use Rattle.line.specs.Meaning.{line_tape}
 use Rattle.line.specs.Taken.{laid_on, laid_there, line_on}
-use Rattle.line.specs.Facts.{laid_of}
+use Rattle.line.proofs.Facts.{laid_of}
 use Rattle.line.proofs.Put.{Fits, old, added, image_now}
 
 module _ (x : LineTransport) (k : ℕ) (i : Item) (inside : k < length (vec_items x.spans)) (last : x.last ≤ k) (few : length (get_or (line_tape x).image k blank_track).items < most_items) (p : proper i ≡ true) (sm : small_item i ≡ true) where

@@ -1,3 +1,4 @@
+pub mod Facts
 pub mod Put
 pub mod Recorded
 pub mod Longer

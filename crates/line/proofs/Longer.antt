@@ -1,5 +1,5 @@
 -- A line transport with blank tracks behind the others. Assumes nothing.
-use Rattle.std.proofs.Common.{◌≡◌, ℕ, suc, ◌+◌, ◌-◌, ◌*◌, ◌/◌, ◌%◌, ◌<◌, ◌≤◌, true, false, List, ◌++◌, length, get_or, take, replicate, vec_items, sym, refl, ap, ◌∙◌, subst, ⊎_elim, add-mul, div-add-mod', zero-mul, arith, length-append}
+use Rattle.std.proofs.Common.{◌≡◌, ℕ, ◌+◌, ◌*◌, ◌/◌, ◌<◌, ◌≤◌, true, false, List, ◌++◌, length, get_or, take, replicate, vec_items, sym, refl, ap, ◌∙◌, subst, ⊎_elim, add-mul, div-add-mod', zero-mul, arith, length-append}
 use Rattle.std.proofs.str.Laws.{order}
 use lib.ListN.{length-replicate}
 use Rattle.std.proofs.lemmas.List.{get_or_past}
@@ -8,7 +8,7 @@ use Rattle.line_text.specs.Layout.{lines_of, blank_span, span_items, sound_span,
 use Rattle.line_text.proofs.Laid.{Laid}
 use Rattle.line_text.proofs.Blanks.{span_with_blanks, with_blanks, laid_with_blanks, none_behind_blanks}
 use Rattle.line.specs.declared.line_transport.LineTransport.{LineTransport}
-use Rattle.line.specs.Facts.{laid_of}
+use Rattle.line.proofs.Facts.{laid_of}
 
 module _ (x : LineTransport) (n : ℕ) (spans : List Span) (is : spans ≡ vec_items x.spans ++ replicate n blank_span) where
   pub longer : length spans ≡ length (vec_items x.spans) + n

@@ -1,5 +1,5 @@
 -- A line transport with one more line on its last track with items, or on a blank one behind it. Assumes nothing.
-use Rattle.std.proofs.Common.{◌≡◌, ℕ, suc, ◌+◌, ◌/◌, ◌%◌, ◌<◌, ◌≤◌, Bool, true, false, cond, eqb, ◌≢◌, List, [], ◌∷◌, ◌++◌, length, get_or, take, drop, set, vec_items, sym, refl, ap, ◌∙◌, subst, ⊎_elim, arith, length-append, length-set, take_all, get_or-set_other, get_or-set_same}
+use Rattle.std.proofs.Common.{◌≡◌, ℕ, suc, ◌+◌, ◌/◌, ◌%◌, ◌<◌, ◌≤◌, true, false, cond, eqb, ◌≢◌, List, [], ◌∷◌, ◌++◌, length, get_or, take, drop, set, vec_items, sym, ap, ◌∙◌, subst, ⊎_elim, arith, length-append, length-set, take_all, get_or-set_other, get_or-set_same}
 use Rattle.std.proofs.str.Laws.{order}
 use Rattle.tape.specs.Items.{Item, proper}
 use Rattle.tape.specs.Tape.{Track}
@@ -7,11 +7,11 @@ use Rattle.line_text.specs.declared.span.Span.{Span}
 use Rattle.line_text.specs.Lines.{line, line_size, small_item}
 use Rattle.line_text.specs.Layout.{lines_of, blank_span, span_items, image_of, sound_span, AllSound, NoneBehind, SomeThere, HeadInside, HeadPlaced, Unmarked}
 use Rattle.line_text.proofs.Laid.{Laid}
-use Rattle.line_text.proofs.Rows.{length_items_in}
+use Rattle.line_text.specs.Facts.{length_items_in}
 use Rattle.line_text.proofs.OneMore.{image_after, laid_after, end_after}
 use Rattle.line_text.proofs.OneLine.{length_line}
 use Rattle.line.specs.declared.line_transport.LineTransport.{LineTransport}
-use Rattle.line.specs.Facts.{laid_of}
+use Rattle.line.proofs.Facts.{laid_of}
 
 module _ (x : LineTransport) (k : ℕ) (i : Item) where
   abbrev pub old : Span

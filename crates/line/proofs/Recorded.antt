@@ -1,17 +1,18 @@
 -- A line transport after one more item. Assumes nothing.
-use Rattle.std.proofs.Common.{◌≡◌, ℕ, suc, ◌+◌, ◌/◌, ◌%◌, ◌<◌, ◌≤◌, Bool, true, false, cond, ◌&&◌, ◌||◌, eqb, ltb, leb, List, [], ◌∷◌, ◌++◌, length, set, vec_items, sym, refl, ap, ◌∙◌, subst, add-one, ltb-true, eqb-true, leb-true}
+use Rattle.std.proofs.Common.{◌≡◌, ℕ, suc, ◌+◌, ◌<◌, ◌≤◌, Bool, true, false, cond, ◌&&◌, ◌||◌, eqb, ltb, leb, List, [], ◌∷◌, ◌++◌, length, set, vec_items, sym, refl, ap, ◌∙◌, add-one, ltb-true, eqb-true, leb-true}
 use borrow.Author.Tests.{clash}
 use Rattle.std.proofs.lemmas.Bool.{and_parts}
 use Rattle.tape.specs.Items.{Item, proper, short}
-use Rattle.tape.specs.Tape.{Track, Tape, Choice, here, at_end, takes, takes_item, recorded, written, writes_after}
+use Rattle.tape.specs.Tape.{Track, Choice, here, at_end, takes, recorded, written, writes_after}
 use Rattle.line_text.specs.declared.span.Span.{Span}
 use Rattle.line_text.specs.Lines.{small_item}
 use Rattle.line_text.specs.Layout.{image_of, tape_in}
 use Rattle.line_text.specs.Spans.{span_after}
-use Rattle.line_text.proofs.Counts.{SoundSpan, sound_facts, sound_from, count_after, since_after, sound_after, early_after, marked_after}
+use Rattle.line_text.specs.Facts.{SoundSpan, sound_facts}
+use Rattle.line_text.proofs.Counts.{sound_from, count_after, since_after, sound_after, early_after, marked_after}
 use Rattle.line.specs.declared.line_transport.LineTransport.{LineTransport}
 use Rattle.line.specs.Meaning.{line_tape, line_choice}
-use Rattle.line.specs.Facts.{head_span, head_items, here_of, here_count, end_of}
+use Rattle.line.proofs.Facts.{head_span, head_items, here_of, here_count, end_of}
 use Rattle.line.proofs.Put.{Fits, added, image_now}
 
 room_behind : (m : Bool) (since : ℕ) (b : Bool) → cond m (ltb since writes_after && b) true ≡ true → m ≡ true → since < writes_after

@@ -1,5 +1,5 @@
 -- How many tracks there are once volumes were added until a track is there. Assumes nothing.
-use Rattle.std.proofs.Common.{◌≡◌, ℕ, zero, suc, ◌+◌, ◌-◌, ◌*◌, ◌/◌, ◌%◌, ◌<◌, ◌≤◌, sym, refl, ap, ◌∙◌, subst, ⊎_elim, mul-le-mul_right, div-lt_iff_lt-mul, add-mul, one-mul, div-add-mod', mul-div_cancel, arith}
+use Rattle.std.proofs.Common.{◌≡◌, ℕ, ◌+◌, ◌-◌, ◌*◌, ◌/◌, ◌%◌, ◌<◌, ◌≤◌, sym, ap, ◌∙◌, ⊎_elim, mul-le-mul_right, div-lt_iff_lt-mul, add-mul, one-mul, div-add-mod', mul-div_cancel, arith}
 use native.Mathlib.Nat.{mul-mod_left, lt-div-mul-add}
 use Rattle.std.proofs.str.Laws.{order}
 

@@ -2,4 +2,4 @@ pub mod Settings
 pub mod Meaning
 pub mod Taken
 pub mod Setup
-pub mod Facts
+pub mod Sound

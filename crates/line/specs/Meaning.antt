@@ -1,5 +1,5 @@
 -- What a line transport stands for. Assumes nothing.
-use Rattle.std.specs.Prelude.{ℕ, suc, ◌+◌, Bool, false, not, List, length, vec_items, ◌==◌, nat_le}
+use Rattle.std.specs.Prelude.{suc, ◌+◌, false, not, length, vec_items, ◌==◌, nat_le}
 use Rattle.tape.specs.Items.{Item}
 use Rattle.tape.specs.Tape.{Tape, Choice, here}
 use Rattle.line_text.specs.Lines.{line_size}

@@ -1,35 +1,15 @@
 -- A span's numbers after one more item. Assumes nothing.
-use Rattle.std.proofs.Common.{◌≡◌, ℕ, suc, ◌+◌, ◌-◌, ◌<◌, ◌≤◌, Bool, true, false, cond, ◌&&◌, ◌||◌, eqb, ltb, leb, ◌≢◌, sym, refl, ap, ◌∙◌, arith, ltb-true, lt-ltb, eq-eqb, eqb-true, le-leb, leb-true}
+use Rattle.std.proofs.Common.{◌≡◌, ℕ, suc, ◌+◌, ◌-◌, ◌<◌, ◌≤◌, Bool, true, false, cond, ◌&&◌, ◌||◌, eqb, ltb, leb, ◌≢◌, sym, refl, ap, ◌∙◌, arith, lt-ltb, eq-eqb, eqb-true, le-leb}
 use borrow.Author.Tests.{eqb-false, lt-leb, clash}
-use Rattle.std.proofs.lemmas.Bool.{and_parts, and_from, and_right}
+use Rattle.std.proofs.lemmas.Bool.{and_from, and_right}
 use Rattle.tape.specs.Tape.{most_items, first_marker, last_marker, writes_after}
 use Rattle.line_text.specs.declared.span.Span.{Span}
 use Rattle.line_text.specs.Layout.{sound_span}
 use Rattle.line_text.specs.Spans.{one_more, span_after}
-
--- the same as facts
-pub record SoundSpan (s : Span) : Type 0 where
-  pub few : s.count ≤ most_items
-  pub unmarked : s.marked ≡ false → (s.count < last_marker) × (s.since ≡ 0)
-  pub marked : s.marked ≡ true → (1 ≤ s.count) × (s.since ≤ writes_after) × (s.count + (writes_after - s.since) ≤ most_items)
+use Rattle.line_text.specs.Facts.{SoundSpan}
 
 clash' : {A : Type 0} → true ≡ false → A
 clash' e = absurd (clash (sym e))
-
-by_marked : (c s : ℕ) (m : Bool) → cond m (leb 1 c && leb s writes_after && leb (c + (writes_after - s)) most_items) (ltb c last_marker && eqb s 0) ≡ true → (m ≡ false → (c < last_marker) × (s ≡ 0)) × (m ≡ true → (1 ≤ c) × (s ≤ writes_after) × (c + (writes_after - s) ≤ most_items))
-by_marked c s true h =
-    let p = and_parts (leb 1 c && leb s writes_after) (leb (c + (writes_after - s)) most_items) h in
-    let q = and_parts (leb 1 c) (leb s writes_after) p.0 in
-    (λ e. clash' e, λ e. (leb-true 1 c q.0, leb-true s writes_after q.1, leb-true (c + (writes_after - s)) most_items p.1))
-by_marked c s false h =
-    let p = and_parts (ltb c last_marker) (eqb s 0) h in
-    (λ e. (ltb-true c last_marker p.0, eqb-true s 0 p.1), λ e. absurd (clash e))
-
-pub sound_facts : (s : Span) → sound_span s ≡ true → SoundSpan s
-sound_facts s h =
-    let p = and_parts (leb s.count most_items) _ h in
-    let q = by_marked s.count s.since s.marked p.1 in
-    record { few = leb-true s.count most_items p.0; unmarked = q.0; marked = q.1 }
 
 from_marked : (c s : ℕ) (m : Bool) → (m ≡ false → (c < last_marker) × (s ≡ 0)) → (m ≡ true → (1 ≤ c) × (s ≤ writes_after) × (c + (writes_after - s) ≤ most_items)) → cond m (leb 1 c && leb s writes_after && leb (c + (writes_after - s)) most_items) (ltb c last_marker && eqb s 0) ≡ true
 from_marked c s true f g = let h = g refl in and_from _ _ (and_from _ _ (le-leb 1 c h.0) (le-leb s writes_after h.1)) (le-leb (c + (writes_after - s)) most_items h.2)

@@ -9,7 +9,8 @@ use Rattle.line_text.specs.declared.span.Span.{Span}
 use Rattle.line_text.specs.Lines.{line, line_size}
 use Rattle.line_text.proofs.OneLine.{length_line}
 use Rattle.line_text.specs.Layout.{lines_of, text_from, blank_span, span_items, track_of, image_of, Whole, Placed, Propers}
-use Rattle.line_text.proofs.Rows.{length_items_in, lines_append, lines_push, text_split}
+use Rattle.line_text.specs.Facts.{length_items_in}
+use Rattle.line_text.proofs.Rows.{lines_append, lines_push, text_split}
 
 -- two functions that agree on a list's elements make the same list of it
 pub map_agrees : {X Y : Type 0} (f g : X → Y) (xs : List X) (d : X) → ((k : ℕ) → k < length xs → f (get_or xs k d) ≡ g (get_or xs k d)) → map f xs ≡ map g xs

@@ -11,7 +11,8 @@ use Rattle.tape.specs.Sound.{all_proper}
 use Rattle.line_text.specs.declared.span.Span.{Span}
 use Rattle.line_text.specs.Lines.{line, small_item}
 use Rattle.line_text.specs.Layout.{items_in, lines_of, text_from, blank_span, span_items, track_of, image_of}
-use Rattle.line_text.proofs.Rows.{length_items_in, items_in_small, all_small_push, all_proper_push, items_of_own_lines, lines_push, text_split, text_blank}
+use Rattle.line_text.specs.Facts.{length_items_in}
+use Rattle.line_text.proofs.Rows.{items_in_small, all_small_push, all_proper_push, items_of_own_lines, lines_push, text_split, text_blank}
 use Rattle.line_text.proofs.Laid.{Laid, map_agrees, track_at, lines_at}
 use Rattle.line_text.proofs.Blank.{blank_past}
 

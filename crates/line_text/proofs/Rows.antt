@@ -13,11 +13,6 @@ abbrev pub all_small : List Item → Bool
 all_small [] = true
 all_small (i ∷ is) = small_item i && all_small is
 
-pub length_items_in : (n : ℕ) (bs : List ℕ) → length (items_in n bs) ≡ n
-unfolding items_in
-length_items_in zero bs = refl
-length_items_in (suc n) bs = ap suc (length_items_in n (drop (size_of_line_in bs) bs))
-
 pub items_in_small : (n : ℕ) (bs : List ℕ) → all_small (items_in n bs) ≡ true
 unfolding items_in
 items_in_small zero bs = refl

@@ -1,3 +1,4 @@
 pub mod Lines
 pub mod Layout
 pub mod Spans
+pub mod Facts

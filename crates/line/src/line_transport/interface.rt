@@ -5,7 +5,7 @@ ghost use Rattle.std.specs.Prelude.{◌≡◌};
 ghost use Rattle.tape.specs.Items.{item_of};
 ghost use Rattle.tape.specs.Tape.{Does, Exactly, write, next_track, mount, following, rewind, look, read, head_place, marker_met, any_items};
 ghost use Rattle.line.specs.Meaning.{line_tape, line_choice, settings_of, sure};
-ghost use Rattle.line.specs.Facts.{sound_of};
+ghost use Rattle.line.specs.Sound.{sound_of};
 
 use super::LineTransport;
 use tape::item::{ItemRef, Kind};

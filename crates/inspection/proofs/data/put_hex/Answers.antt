@@ -5,8 +5,8 @@ use Rattle.inspection.proofs.data.put_hex.Goals as goal
 
 pub loop-b-preserved : goal.loop-b-preserved
 loop-b-preserved c =
-    hex_turn c.args.bytes.now c.loop-b.b-index (vec_items c.loop-b.out) _ _ _ _ c.loop-b-test.true c.hex_digit.ensures c.hex-digit-in-loop-b.ensures
-    c.in-ok-put.ensures
+    hex_turn c.args.bytes.now c.loop-b.b-index (vec_items c.loop-b.out) _ _ _ _ c.loop-b-test.true c.hex_digit.ensures c.hex_digit-in-loop-b.ensures
+    c.in_ok-put.ensures
     c.loop-b.invariant
 
 pub returns : goal.returns

@@ -6,7 +6,7 @@ use Rattle.inspection.proofs.data.put_seen.Goals as goal
 pub loop-b-preserved : goal.loop-b-preserved
 loop-b-preserved c =
     character_turn c.args.bytes.now c.loop-b.b-index (vec_items c.loop-b.out) _ _ _ c.loop-b-test.true c.seen.ensures
-    c.in-ok-put.ensures
+    c.in_ok-put.ensures
     c.loop-b.invariant
 
 pub returns : goal.returns

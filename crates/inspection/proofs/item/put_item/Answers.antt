@@ -3,4 +3,4 @@ use Rattle.inspection.proofs.item.put_item.Goals as goal
 
 pub returns : goal.returns
 returns c =
-    simp c.in-ok-put-kind.ensures (simp c.in-ok-put-place.ensures (rw append_assoc))
+    simp c.in_ok-put_kind.ensures (simp c.in_ok-put_place.ensures (rw append_assoc))

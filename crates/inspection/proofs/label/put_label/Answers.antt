@@ -5,4 +5,4 @@ use Rattle.inspection.proofs.label.put_label.Goals as goal
 
 pub returns : goal.returns
 returns c =
-    simp c.in-ok-put-back.ensures (simp c.in-ok-put-front.ensures (rw append_assoc (both_parts (vec_items c.args.out.now) _ (held c.parts-parts.result) (told_by c.args.label) c.kind.ensures c.parts-parts.ensures)))
+    simp c.in_ok-put_back.ensures (simp c.in_ok-put_front.ensures (rw append_assoc (both_parts (vec_items c.args.out.now) _ (held c.parts-parts.result) (told_by c.args.label) c.kind.ensures c.parts-parts.ensures)))

@@ -3,4 +3,4 @@ use Rattle.inspection.proofs.lines.put_total.Goals as goal
 
 pub returns : goal.returns
 returns c =
-    simp c.in-ok-put-counts.ensures (simp c.in-ok-put-number.ensures (rw append_assoc))
+    simp c.in_ok-put_counts.ensures (simp c.in_ok-put_number.ensures (rw append_assoc))

@@ -5,4 +5,4 @@ use Rattle.inspection.proofs.text.+put_digits.Goals as goal
 pub returns : goal.returns
 returns t c =
     let e = decimal_step c.args.width c.args.n c.if-width-eq0.false in
-    simp (c.in-ok-put.ensures, c.in-ok-put-digits.ensures, e, c.digit.ensures, append_assoc)
+    simp (c.in_ok-put.ensures, c.in_ok-put_digits.ensures, e, c.digit.ensures, append_assoc)

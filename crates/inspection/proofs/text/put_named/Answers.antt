@@ -4,4 +4,4 @@ use Rattle.inspection.proofs.text.put_named.Goals as goal
 
 pub returns : goal.returns
 unfolding named
-returns c = simp (c.in-ok-put-2.ensures, c.in-ok-put.ensures, append_assoc)
+returns c = simp (c.in_ok-put-2.ensures, c.in_ok-put.ensures, append_assoc)

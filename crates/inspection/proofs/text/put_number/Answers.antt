@@ -4,4 +4,4 @@ use Rattle.inspection.proofs.text.put_number.Goals as goal
 
 pub returns : goal.returns
 unfolding numbered
-returns c = simp (c.in-ok-put-digits.ensures, c.in-ok-put.ensures, append_assoc)
+returns c = simp (c.in_ok-put_digits.ensures, c.in_ok-put.ensures, append_assoc)

@@ -19,16 +19,16 @@ record Turn (t : Tape) (n : ℕ) (out : List ℕ) (c d : Totals) (u : Tape) (new
   tape : u ≡ head_to t t.at (suc n)
   text : new ≡ out ++ item_line (place_of t.tracks t.at n) item
 
-turn : (c : goal.In-Some) → Turn (line_tape c.args.tape.now) c.items.tape.item (vec_items c.items.out) c.items.totals c.in-Some.more (line_tape c.put-next.new.tape) (vec_items c.put-next.new.out)
+turn : (c : goal.In-Some) → Turn (line_tape c.args.tape.now) c.items.tape.item (vec_items c.items.out) c.items.totals c.in-Some.more (line_tape c.put_next.new.tape) (vec_items c.put_next.new.out)
 turn c =
     let t = line_tape c.args.tape.now in
     let n = c.items.tape.item in
-    let put : NextPut (head_to t t.at n) (vec_items c.items.out) c.items.totals (next_item (head_to t t.at n)) (Some c.in-Some.more) (line_tape c.put-next.new.tape) (vec_items c.put-next.new.out) = subst₂ (λ (v : Tape) (o : Option Totals). PutNext v (vec_items c.items.out) c.items.totals o (line_tape c.put-next.new.tape) (vec_items c.put-next.new.out)) c.items.invariant.0 c.in-Some.is c.in-ok-more.ensures in
+    let put : NextPut (head_to t t.at n) (vec_items c.items.out) c.items.totals (next_item (head_to t t.at n)) (Some c.in-Some.more) (line_tape c.put_next.new.tape) (vec_items c.put_next.new.out) = subst₂ (λ (v : Tape) (o : Option Totals). PutNext v (vec_items c.items.out) c.items.totals o (line_tape c.put_next.new.tape) (vec_items c.put_next.new.out)) c.items.invariant.0 c.in-Some.is c.in_ok-more.ensures in
     let p = put_some (head_to t t.at n) _ _ _ _ _ _ put in
     let l = left_more (here t).items n p.0 p.1 in
     record { item = p.0; inside = l.0; left = l.1; totals = p.2; tape = p.3; text = p.4 }
 
-next_number : (c : goal.In-Some) → c.put-next.new.tape.item ≡ suc c.items.tape.item
+next_number : (c : goal.In-Some) → c.put_next.new.tape.item ≡ suc c.items.tape.item
 next_number c = ap (λ (v : Tape). v.item) (turn c).tape
 
 pub items-smaller : goal.items-smaller
@@ -44,17 +44,17 @@ items-preserved c =
     let inv = c.items.invariant in (
       m.tape ∙ ap (head_to t t.at) e,
       omega (arith, m.inside, e),
-      ap (λ k. vec_items c.put-next.new.out ++ item_lines t.tracks t.at k (drop k is)) (sym e) ∙ lines_more t.tracks t.at n m.item (drop (suc n) is) (vec_items c.items.out) (vec_items c.put-next.new.out) _ m.text (sym (ap (λ l. vec_items c.items.out ++ item_lines t.tracks t.at n l) m.left) ∙ inv.2),
+      ap (λ k. vec_items c.put_next.new.out ++ item_lines t.tracks t.at k (drop k is)) (sym e) ∙ lines_more t.tracks t.at n m.item (drop (suc n) is) (vec_items c.items.out) (vec_items c.put_next.new.out) _ m.text (sym (ap (λ l. vec_items c.items.out ++ item_lines t.tracks t.at n l) m.left) ∙ inv.2),
       ap (λ k. totals_from c.in-Some.more (drop k is)) (sym e) ∙ ap (λ (d : Totals). totals_from d (drop (suc n) is)) m.totals ∙ sym (ap (totals_from c.items.totals) m.left) ∙ inv.3,
     )
 
-pub returns-in-default : goal.returns-in-default
-returns-in-default c =
+pub returns-in_default : goal.returns-in_default
+returns-in_default c =
     let t = line_tape c.args.tape.now in
     let n = c.items.tape.item in
     let is = (here t).items in
     let inv = c.items.invariant in
-    let put : NextPut (head_to t t.at n) (vec_items c.items.out) c.items.totals (next_item (head_to t t.at n)) None (line_tape c.put-next.new.tape) (vec_items c.put-next.new.out) = subst₂ (λ (v : Tape) (o : Option Totals). PutNext v (vec_items c.items.out) c.items.totals o (line_tape c.put-next.new.tape) (vec_items c.put-next.new.out)) inv.0 c.in-default.is c.in-ok-more.ensures in
+    let put : NextPut (head_to t t.at n) (vec_items c.items.out) c.items.totals (next_item (head_to t t.at n)) None (line_tape c.put_next.new.tape) (vec_items c.put_next.new.out) = subst₂ (λ (v : Tape) (o : Option Totals). PutNext v (vec_items c.items.out) c.items.totals o (line_tape c.put_next.new.tape) (vec_items c.put_next.new.out)) inv.0 c.in_default.is c.in_ok-more.ensures in
     let p = put_none (head_to t t.at n) _ _ _ _ _ put in
     let past = left_none is n p.0 in
     let end : n ≡ length is = omega (arith, past, inv.1) in

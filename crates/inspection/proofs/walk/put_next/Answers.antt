@@ -15,23 +15,23 @@ use Rattle.inspection.proofs.walk.put_next.Goals as goal
 stepped : (t : Tape) (out new : List ℕ) (c d : Totals) (o : Option Item) (u : Tape) (i : Item) → o ≡ Some i → d ≡ counted c (kind_of i) → u ≡ head_to t t.at (suc t.item) → new ≡ out ++ item_line (head_place t) i → NextPut t out c o (Some d) u new
 stepped t out new c d o u i e p q r = subst (λ (m : Option Item). NextPut t out c m (Some d) u new) (sym e) (ap Some p, q, r)
 
-pub returns-in-default : goal.returns-in-default
-returns-in-default c =
+pub returns-in_default : goal.returns-in_default
+returns-in_default c =
     let x = c.args.tape.now in
     let t = line_tape x in
-    let g = gave_none t _ c.requires (next_item t) _ _ _ (λ i. next_fits x _ i refl) c.in-default.ensures.exact in
+    let g = gave_none t _ c.requires (next_item t) _ _ _ (λ i. next_fits x _ i refl) c.in_default.ensures.exact in
     subst (λ (m : Option Item). NextPut t (vec_items c.args.out.now) c.args.totals m None (line_tape c.read.new.self) (vec_items c.args.out.now)) (sym g.0) (refl, g.1, refl)
 
-pub returns-in-ok-put-item : goal.returns-in-ok-put-item
-returns-in-ok-put-item c =
+pub returns-in_ok-put_item : goal.returns-in_ok-put_item
+returns-in_ok-put_item c =
     let x = c.args.tape.now in
     let t = line_tape x in
     let g = gave_some t _ c.requires (next_item t) c.in-Ok.kind _ _ (λ i. next_fits x _ i refl) c.in-Ok.ensures.exact in
     let kind : kind_of g.0 ≡ told.Mark = g.2 ∙ c.in-Mark.is in
-    stepped t (vec_items c.args.out.now) _ c.args.totals _ (next_item t) _ g.0 g.1 (c.with.ensures ∙ ap (counted c.args.totals) (sym kind)) g.4 (c.in-ok-put-item.ensures ∙ (λ j. vec_items c.args.out.now ++ item_line (c.place-place.ensures j) ((c.a-mark.ensures ∙ sym (is_mark g.0 kind)) j)))
+    stepped t (vec_items c.args.out.now) _ c.args.totals _ (next_item t) _ g.0 g.1 (c.with.ensures ∙ ap (counted c.args.totals) (sym kind)) g.4 (c.in_ok-put_item.ensures ∙ (λ j. vec_items c.args.out.now ++ item_line (c.place-place.ensures j) ((c.a_mark.ensures ∙ sym (is_mark g.0 kind)) j)))
 
-pub returns-in-ok-put-item-2 : goal.returns-in-ok-put-item-2
-returns-in-ok-put-item-2 c =
+pub returns-in_ok-put_item-2 : goal.returns-in_ok-put_item-2
+returns-in_ok-put_item-2 c =
     let x = c.args.tape.now in
     let t = line_tape x in
     let g = gave_some t _ c.requires (next_item t) c.in-Ok.kind _ _ (λ i. next_fits x _ i refl) c.in-Ok.ensures.exact in
@@ -39,4 +39,4 @@ returns-in-ok-put-item-2 c =
     let kind : kind_of g.0 ≡ told.Block size = g.2 ∙ c.in-Block.is in
     let whole : size - 0 ≡ size = omega arith in
     let bytes : block (take (size - 0) c.read.new.buffer) ≡ g.0 = (λ j. block (take (whole j) (g.3 j))) ∙ sym (is_block g.0 size _ kind) in
-    stepped t (vec_items c.args.out.now) _ c.args.totals _ (next_item t) _ g.0 g.1 (c.with-in-Block.ensures ∙ ap (counted c.args.totals) (sym kind)) g.4 (c.in-ok-put-item-2.ensures ∙ (λ j. vec_items c.args.out.now ++ item_line (c.place-place.ensures j) (bytes j)))
+    stepped t (vec_items c.args.out.now) _ c.args.totals _ (next_item t) _ g.0 g.1 (c.with-in-Block.ensures ∙ ap (counted c.args.totals) (sym kind)) g.4 (c.in_ok-put_item-2.ensures ∙ (λ j. vec_items c.args.out.now ++ item_line (c.place-place.ensures j) (bytes j)))

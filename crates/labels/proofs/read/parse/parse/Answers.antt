@@ -8,9 +8,9 @@ use Rattle.labels.proofs.Behind.{block_short, block_read, block_refused}
 use Rattle.labels.proofs.read.parse.parse.Goals as goal
 use Rattle.labels.proofs.read.parse.parse.Goals.{else-are-lawful-via-then-are-lawful+else-allows, else-are-lawful-via-else-are-lawful}
 
-pub returns-in-default-of : goal.returns-in-default-of
-returns-in-default-of c =
-    block_short c.args.block.now c.in-Some.kind c.in-Some.ensures c.in-default-of.ensures
+pub returns-in_default-of : goal.returns-in_default-of
+returns-in_default-of c =
+    block_short c.args.block.now c.in-Some.kind c.in-Some.ensures c.in_default-of.ensures
 
 pub returns-then-allows : goal.returns-then-allows
 returns-then-allows c =

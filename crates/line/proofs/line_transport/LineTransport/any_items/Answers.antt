@@ -1,6 +1,6 @@
 use Rattle.std.proofs.Common.{ltb, sym, ap, ◌∙◌}
 use Rattle.line_text.specs.declared.span.Span.{Span}
-use Rattle.line.specs.Facts.{any_of}
+use Rattle.line.proofs.Facts.{any_of}
 use Rattle.line.proofs.line_transport.LineTransport.any_items.Goals as goal
 
 pub returns : goal.returns

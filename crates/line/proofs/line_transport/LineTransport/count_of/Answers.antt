@@ -1,12 +1,12 @@
-use Rattle.std.proofs.Common.{◌≡◌, length, get_or, drop, vec_items, sym, refl, ap, ◌∙◌, arith}
+use Rattle.std.proofs.Common.{length, get_or, drop, vec_items, sym, ap, ◌∙◌, arith}
 use lib.ListN.{length-map}
 use Rattle.std.proofs.lemmas.List.{get_or_past}
 use Rattle.tape.specs.Tape.{Track, blank_track}
 use Rattle.line_text.specs.declared.span.Span.{Span}
 use Rattle.line_text.specs.Layout.{image_of, track_of, blank_span}
 use Rattle.line_text.proofs.Laid.{track_at}
-use Rattle.line_text.proofs.Rows.{length_items_in}
-use Rattle.line.specs.Facts.{laid_of}
+use Rattle.line_text.specs.Facts.{length_items_in}
+use Rattle.line.proofs.Facts.{laid_of}
 use Rattle.line.proofs.line_transport.LineTransport.count_of.Goals as goal
 
 pub returns-then-k-len : goal.returns-then-k-len

@@ -1,7 +1,7 @@
 use Rattle.std.proofs.Common.{sym, ap, ◌∙◌}
 use Rattle.tape.specs.Tape.{Track}
 use Rattle.line_text.specs.declared.span.Span.{Span}
-use Rattle.line.specs.Facts.{here_of}
+use Rattle.line.proofs.Facts.{here_of}
 use Rattle.line.proofs.line_transport.LineTransport.head_marked.Goals as goal
 
 pub returns : goal.returns

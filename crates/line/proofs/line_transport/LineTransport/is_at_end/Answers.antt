@@ -1,7 +1,7 @@
 use Rattle.std.proofs.Common.{◌&&◌, eqb, leb, sym, ap, ◌∙◌, eq-eqb, ne_eqb}
 use Rattle.std.proofs.lemmas.Bool.{and_left}
 use Rattle.line_text.specs.declared.span.Span.{Span}
-use Rattle.line.specs.Facts.{end_of}
+use Rattle.line.proofs.Facts.{end_of}
 use Rattle.line.proofs.line_transport.LineTransport.is_at_end.Goals as goal
 
 pub returns-then-self-span : goal.returns-then-self-span

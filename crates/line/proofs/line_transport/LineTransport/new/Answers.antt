@@ -1,11 +1,11 @@
-use Rattle.std.proofs.Common.{◌≡◌, ◌+◌, ◌-◌, ◌*◌, ◌/◌, ◌≤◌, true, false, ◌&&◌, leb, ◌++◌, length, replicate, vec_items, vec_capacity, sym, refl, ap, ◌∙◌, arith, leb-true}
+use Rattle.std.proofs.Common.{◌≡◌, ◌-◌, ◌≤◌, true, false, ◌&&◌, leb, ◌++◌, length, replicate, vec_items, sym, refl, ap, ◌∙◌, arith, leb-true}
 use Rattle.std.proofs.lemmas.Bool.{and_parts}
 use Rattle.line_text.specs.Layout.{blank_span}
 use Rattle.line.specs.declared.settings.Settings.{Settings}
 use Rattle.line.specs.Settings.{lawful_settings}
-use Rattle.line.proofs.Fresh.{laid_fresh, long, sound_fresh, behind_fresh, there_fresh, head_fresh, reached_fresh, unmarked_fresh, whole_fresh, volumes_fresh, room_fresh, image_fresh}
+use Rattle.line.proofs.Fresh.{laid_fresh, sound_fresh, behind_fresh, there_fresh, head_fresh, reached_fresh, unmarked_fresh, whole_fresh, volumes_fresh, room_fresh, image_fresh}
 use Rattle.line.proofs.line_transport.LineTransport.new.Goals as goal
-use Rattle.line.proofs.line_transport.LineTransport.new.Goals.{After-put-blanks}
+use Rattle.line.proofs.line_transport.LineTransport.new.Goals.{After-put_blanks}
 
 -- what lawful settings are
 record Lawful (s : Settings) : Type 0 where
@@ -32,30 +32,44 @@ lawful s h =
       early = leb-true s.marker 60000 a.1;
     }
 
-volume : (c : After-put-blanks) → vec_items c.put-blanks.new.spans ≡ replicate c.args.settings.tracks blank_span
-volume c = c.put-blanks.ensures.items ∙ ap (λ l. l ++ replicate c.args.settings.tracks blank_span) c.in-ok-spans.ensures.items
+volume : (c : After-put_blanks) → vec_items c.put_blanks.new.spans ≡ replicate c.args.settings.tracks blank_span
+volume c = c.put_blanks.ensures.items ∙ ap (λ l. l ++ replicate c.args.settings.tracks blank_span) c.in_ok-spans.ensures.items
 
-fair : (c : After-put-blanks) → lawful_settings c.args.settings ≡ true
-fair c = sym c.is-lawful.ensures ∙ c.if-not-is-lawful.false
+fair : (c : After-put_blanks) → lawful_settings c.args.settings ≡ true
+fair c = sym c.is_lawful.ensures ∙ c.if-not-is_lawful.false
 
-pub invariant-of-result : goal.invariant-of-result
-invariant-of-result c =
+pub invariant_of-result : goal.invariant_of-result
+invariant_of-result c =
     let x = c.args.settings in
-    let t = vec_items c.in-ok-text.text in
-    let s = vec_items c.put-blanks.new.spans in
-    let d = (goal.at.invariant-of-result c).After-put-blanks in
-    let e = c.in-ok-text.ensures.items in
+    let t = vec_items c.in_ok-text.text in
+    let s = vec_items c.put_blanks.new.spans in
+    let d = (goal.at.invariant_of-result c).After-put_blanks in
+    let e = c.in_ok-text.ensures.items in
     let v = volume d in
     let l = lawful x (fair d) in
     let o = l.some_track in
     let laid = laid_fresh x.tracks t s e v o in
     let head = head_fresh x.tracks t s e v o in
-    (laid.whole, (laid.placed, (laid.propers, (sound_fresh x.tracks t s e v o, (head.0, (behind_fresh x.tracks t s e v o, (there_fresh x.tracks t s e v o, (head, (reached_fresh x.tracks t s e v o, (unmarked_fresh x.tracks t s e v o x.marker l.late, ((o, l.few_tracks, whole_fresh x.tracks t s e v o, volumes_fresh x.tracks t s e v o x.volumes l.some_volume, l.few_volumes), ((c.in-ok-text.ensures.capacity, omega (arith, ap length e), omega (arith, room_fresh x.tracks t s e v o x.volumes l.some_volume, c.in-ok-spans.ensures.capacity, c.put-blanks.ensures.capacity)), ((l.late, l.early), tt)))))))))))))
+    record {
+      whole = laid.whole;
+      placed = laid.placed;
+      propers = laid.propers;
+      sound = sound_fresh x.tracks t s e v o;
+      ending = head.0;
+      behind = behind_fresh x.tracks t s e v o;
+      there = there_fresh x.tracks t s e v o;
+      head = head;
+      reached = reached_fresh x.tracks t s e v o;
+      unmarked = unmarked_fresh x.tracks t s e v o x.marker l.late;
+      bounds = (o, l.few_tracks, whole_fresh x.tracks t s e v o, volumes_fresh x.tracks t s e v o x.volumes l.some_volume, l.few_volumes);
+      memory = (c.in_ok-text.ensures.capacity, omega (arith, ap length e), omega (arith, room_fresh x.tracks t s e v o x.volumes l.some_volume, c.in_ok-spans.ensures.capacity, c.put_blanks.ensures.capacity));
+      foil = (l.late, l.early);
+    }
 
 pub returns : goal.returns
 returns c =
     let x = c.args.settings in
-    let d = (goal.at.returns c).After-put-blanks in
+    let d = (goal.at.returns c).After-put_blanks in
     let l = lawful x (fair d) in
-    let image = image_fresh x.tracks (vec_items c.in-ok-text.text) (vec_items c.put-blanks.new.spans) c.in-ok-text.ensures.items (volume d) l.some_track in
+    let image = image_fresh x.tracks (vec_items c.in_ok-text.text) (vec_items c.put_blanks.new.spans) c.in_ok-text.ensures.items (volume d) l.some_track in
     (fair d, (λ i. record { tracks = x.tracks; image = image i; at = 0; item = 0; left = x.volumes - 1; failed = false }), refl)

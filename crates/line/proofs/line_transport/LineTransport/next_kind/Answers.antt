@@ -1,4 +1,4 @@
-use Rattle.std.proofs.Common.{◌≡◌, suc, ◌+◌, ◌/◌, ◌%◌, ◌<◌, ◌≤◌, length, get_or, drop, Some, vec_items, sym, ap, ◌∙◌, arith, drop-cons}
+use Rattle.std.proofs.Common.{◌<◌, length, get_or, drop, Some, vec_items, sym, ap, ◌∙◌, arith, drop-cons}
 use Rattle.std.specs.Option.{option_map}
 use Rattle.std.proofs.lemmas.List.{drop_all}
 use Rattle.tape.specs.Items.{mark, kind_of}
@@ -6,12 +6,12 @@ use Rattle.tape.specs.Tape.{first}
 use Rattle.line_text.specs.Lines.{kind_in}
 use Rattle.line_text.specs.declared.span.Span.{Span}
 use Rattle.line_text.proofs.OneLine.{kind_of_own_line}
-use Rattle.line_text.proofs.Rows.{length_items_in}
-use Rattle.line.specs.Facts.{head_span, head_items, items_of_here, here_count, line_here, proper_here}
+use Rattle.line_text.specs.Facts.{length_items_in}
+use Rattle.line.proofs.Facts.{head_span, head_items, items_of_here, line_here, proper_here}
 use Rattle.line.proofs.line_transport.LineTransport.next_kind.Goals as goal
-use Rattle.line.proofs.line_transport.LineTransport.next_kind.Goals.{After-as-slice}
+use Rattle.line.proofs.line_transport.LineTransport.next_kind.Goals.{After-as_slice}
 
-inside : (c : After-as-slice) → c.args.self.now.item < (head_span c.args.self.now).count
+inside : (c : After-as_slice) → c.args.self.now.item < (head_span c.args.self.now).count
 inside c =
     let count = ap (λ (s : Span). s.count) c.span.ensures in
     omega (arith, c.args.self.now.head.1, count, c.if-self-span.false)
@@ -22,14 +22,14 @@ returns-then-self-span c =
     let count = ap (λ (s : Span). s.count) c.span.ensures in
     sym (ap (λ l. option_map kind_of (first (drop x.item l))) (items_of_here x) ∙ ap (λ l. option_map kind_of (first l)) (drop_all x.item (head_items x) (omega (arith, count, c.if-self-span.true, length_items_in (head_span x).count (drop (head_span x).start (vec_items x.text))))))
 
-pub rest-of-requires : goal.rest-of-requires
-rest-of-requires c = omega (arith, ap length c.as-slice.ensures.value, (line_here c.args.self.now (inside c)).2)
+pub rest_of-requires : goal.rest_of-requires
+rest_of-requires c = omega (arith, ap length c.as_slice.ensures.value, (line_here c.args.self.now (inside c)).2)
 
 pub returns : goal.returns
 returns c =
     let x = c.args.self.now in
-    let h = inside (goal.at.returns c).After-as-slice in
+    let h = inside (goal.at.returns c).After-as_slice in
     let there = line_here x h in
-    let seen = c.kind-of-line.ensures ∙ ap kind_in (c.rest-of.ensures ∙ ap (drop x.pos) c.as-slice.ensures.value ∙ there.1) ∙ kind_of_own_line _ _ _ (get_or (head_items x) x.item mark) there.0 (proper_here x h) in
+    let seen = c.kind_of_line.ensures ∙ ap kind_in (c.rest_of.ensures ∙ ap (drop x.pos) c.as_slice.ensures.value ∙ there.1) ∙ kind_of_own_line _ _ _ (get_or (head_items x) x.item mark) there.0 (proper_here x h) in
     let long : x.item < length (head_items x) = omega (arith, h, length_items_in (head_span x).count (drop (head_span x).start (vec_items x.text))) in
     ap Some seen ∙ sym (ap (λ l. option_map kind_of (first (drop x.item l))) (items_of_here x) ∙ ap (λ l. option_map kind_of (first l)) (drop-cons (head_items x) x.item mark long))

@@ -1,4 +1,4 @@
-use Rattle.std.proofs.Common.{◌≡◌, true, false, ltb, length, vec_items, sym, refl, ap, ◌∙◌, arith, le-ltb, lt-ltb}
+use Rattle.std.proofs.Common.{◌≡◌, true, false, ltb, length, vec_items, refl, arith, le-ltb, lt-ltb}
 use lib.ListN.{length-map}
 use Rattle.std.proofs.iter.Next.{first_way, second_way}
 use Rattle.tape.specs.Tape.{head_to}
@@ -13,12 +13,12 @@ returns-then-k-len c =
     let past : ltb c.args.k (length t.image) ≡ false = le-ltb _ _ (omega (arith, length-map (vec_items x.spans) (track_of (vec_items x.text)), c.len.ensures, x.spans.ok.0, c.if-k-len.true)) in
     record { found = second_way (true, head_to t c.args.k 0) (false, t) past refl; settings = refl }
 
-pub head-to-track-requires : goal.head-to-track-requires
-head-to-track-requires c = omega (arith, c.len.ensures, c.args.self.now.spans.ok.0, c.if-k-len.false)
+pub head_to_track-requires : goal.head_to_track-requires
+head_to_track-requires c = omega (arith, c.len.ensures, c.args.self.now.spans.ok.0, c.if-k-len.false)
 
 pub returns : goal.returns
 returns c =
     let x = c.args.self.now in
     let t = line_tape x in
     let inside : ltb c.args.k (length t.image) ≡ true = lt-ltb _ _ (omega (arith, length-map (vec_items x.spans) (track_of (vec_items x.text)), c.len.ensures, x.spans.ok.0, c.if-k-len.false)) in
-    record { found = first_way (true, head_to t c.args.k 0) (false, t) inside (λ i. (true, c.head-to-track.ensures.tape i)); settings = c.head-to-track.ensures.settings }
+    record { found = first_way (true, head_to t c.args.k 0) (false, t) inside (λ i. (true, c.head_to_track.ensures.tape i)); settings = c.head_to_track.ensures.settings }

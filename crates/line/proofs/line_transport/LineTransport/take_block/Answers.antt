@@ -1,4 +1,4 @@
-use Rattle.std.proofs.Common.{◌≡◌, ℕ, ◌-◌, ◌<◌, ◌≤◌, Bool, true, false, ◌&&◌, leb, List, ◌++◌, length, take, drop, vec_items, sym, refl, ap, ◌∙◌, subst, arith, take_at, le-leb, leb-true}
+use Rattle.std.proofs.Common.{◌≡◌, ℕ, ◌-◌, Bool, true, false, ◌&&◌, leb, List, ◌++◌, length, take, drop, vec_items, sym, refl, ap, ◌∙◌, arith, take_at, le-leb}
 use borrow.Author.Tests.{clash, lt-leb}
 use Rattle.std.specs.Str.{bytes_eq}
 use Rattle.std.proofs.lemmas.Bool.{and_left, and_right, and_from, and_parts}
@@ -9,7 +9,7 @@ use Rattle.line.specs.Meaning.{line_tape}
 use Rattle.line.specs.Taken.{line_on, laid}
 use Rattle.std.proofs.ResultArms.{chosen}
 use Rattle.line.proofs.line_transport.LineTransport.take_block.Goals as goal
-use Rattle.line.proofs.line_transport.LineTransport.take_block.Goals.{After-copy-block}
+use Rattle.line.proofs.line_transport.LineTransport.take_block.Goals.{After-copy_block}
 
 -- the block that the line tells
 abbrev told_block : List ℕ → ℕ → Item
@@ -29,9 +29,9 @@ returns-then-size-eq0 c =
       settings = refl;
     }
 
-pub returns-then-not-copy-block : goal.returns-then-not-copy-block
-returns-then-not-copy-block c =
-    let both : (leb c.args.size 256 && leb c.args.size 256) ≡ false = sym c.copy-block.ensures.told ∙ c.if-not-copy-block.true in
+pub returns-then-not-copy_block : goal.returns-then-not-copy_block
+returns-then-not-copy_block c =
+    let both : (leb c.args.size 256 && leb c.args.size 256) ≡ false = sym c.copy_block.ensures.told ∙ c.if-not-copy_block.true in
     record {
       told = improper c.args.line.now c.args.size _ (and_right _ _ (same_test (leb c.args.size 256) both));
       tape = λ e. absurd (clash e);
@@ -45,35 +45,35 @@ returns-then-not-copy-block c =
     same_test false e = e
 
 -- the bytes that are handed on are the block's
-bytes_are : (c : After-copy-block) → c.copy-block.result ≡ true → take (c.args.size - 0) c.copy-block.new.out ≡ unhexed c.args.size (drop 50 c.args.line.now)
+bytes_are : (c : After-copy_block) → c.copy_block.result ≡ true → take (c.args.size - 0) c.copy_block.new.out ≡ unhexed c.args.size (drop 50 c.args.line.now)
 bytes_are c e =
     let whole : c.args.size - 0 ≡ c.args.size = omega arith in
     let back = unhexed c.args.size (drop 50 c.args.line.now) in
-    ap (λ n. take n c.copy-block.new.out) whole ∙ ap (take c.args.size) (chosen _ _ _ _ c.copy-block.ensures.bytes e) ∙ take_at back _ c.args.size (length_unhexed c.args.size (drop 50 c.args.line.now))
+    ap (λ n. take n c.copy_block.new.out) whole ∙ ap (take c.args.size) (chosen _ _ _ _ c.copy_block.ensures.bytes e) ∙ take_at back _ c.args.size (length_unhexed c.args.size (drop 50 c.args.line.now))
 
-is_proper : (c : After-copy-block) → c.copy-block.result ≡ true → (c.args.size ≡ 0 → ⊥) → proper (told_block c.args.line.now c.args.size) ≡ true
-is_proper c e some = ap (λ n. leb 1 n && leb n 256) (length_unhexed c.args.size (drop 50 c.args.line.now)) ∙ and_from _ _ (le-leb 1 c.args.size (omega (arith, some))) (and_parts (leb c.args.size 256) (leb c.args.size 256) (sym c.copy-block.ensures.told ∙ e)).1
+is_proper : (c : After-copy_block) → c.copy_block.result ≡ true → (c.args.size ≡ 0 → ⊥) → proper (told_block c.args.line.now c.args.size) ≡ true
+is_proper c e some = ap (λ n. leb 1 n && leb n 256) (length_unhexed c.args.size (drop 50 c.args.line.now)) ∙ and_from _ _ (le-leb 1 c.args.size (omega (arith, some))) (and_parts (leb c.args.size 256) (leb c.args.size 256) (sym c.copy_block.ensures.told ∙ e)).1
 
-pub take-item-requires : goal.take-item-requires
-take-item-requires c =
-    let d = (goal.at.take-item-requires c).After-copy-block in
+pub take_item-requires : goal.take_item-requires
+take_item-requires c =
+    let d = (goal.at.take_item-requires c).After-copy_block in
     record {
       goes = c.requires.goes;
       last = c.requires.last;
-      item = ap (λ l. proper (block l)) (bytes_are d c.if-not-copy-block.false) ∙ is_proper d c.if-not-copy-block.false c.if-size-eq0.false;
+      item = ap (λ l. proper (block l)) (bytes_are d c.if-not-copy_block.false) ∙ is_proper d c.if-not-copy_block.false c.if-size-eq0.false;
       room = c.requires.room;
     }
 
 pub returns : goal.returns
 returns c =
-    let d = (goal.at.returns c).After-copy-block in
+    let d = (goal.at.returns c).After-copy_block in
     let x = c.args.self.now in
     let t = line_tape x in
     let line = c.args.line.now in
-    let same = bytes_are d c.if-not-copy-block.false in
-    let taken = c.take-item.ensures in
+    let same = bytes_are d c.if-not-copy_block.false in
+    let taken = c.take_item.ensures in
     record {
-      told = taken.told ∙ ap (λ l. bytes_eq (take (length (line_on t c.args.k (block l))) line) (line_on t c.args.k (block l))) same ∙ sym (ap (λ b. b && bytes_eq (take (length (line_on t c.args.k (told_block line c.args.size))) line) (line_on t c.args.k (told_block line c.args.size))) (is_proper d c.if-not-copy-block.false c.if-size-eq0.false));
+      told = taken.told ∙ ap (λ l. bytes_eq (take (length (line_on t c.args.k (block l))) line) (line_on t c.args.k (block l))) same ∙ sym (ap (λ b. b && bytes_eq (take (length (line_on t c.args.k (told_block line c.args.size))) line) (line_on t c.args.k (told_block line c.args.size))) (is_proper d c.if-not-copy_block.false c.if-size-eq0.false));
       tape = λ e. taken.tape e ∙ ap (λ l. laid x.volumes t c.args.k (block l)) same;
       text = λ e. taken.text e ∙ ap (λ l. vec_items x.text ++ line_on t c.args.k (block l)) same;
       last = taken.last;

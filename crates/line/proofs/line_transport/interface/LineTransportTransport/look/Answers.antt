@@ -1,4 +1,4 @@
-use Rattle.std.proofs.Common.{◌≡◌, true, false, not, sym, refl, ap, ◌∙◌, inl, inr}
+use Rattle.std.proofs.Common.{true, refl, inl}
 use Rattle.std.specs.Option.{option_map}
 use Rattle.tape.specs.Items.{kind_of}
 use Rattle.tape.specs.Tape.{next_item}
@@ -15,5 +15,5 @@ returns-then-self c =
 pub returns : goal.returns
 returns c =
     let t = line_tape c.args.self.now in
-    let e = done sure true t (option_map kind_of (next_item t)) t c.next-kind.result t c.if-self.false refl refl c.next-kind.ensures refl in
+    let e = done sure true t (option_map kind_of (next_item t)) t c.next_kind.result t c.if-self.false refl refl c.next_kind.ensures refl in
     record { does = (sure, e); exact = e; settings = refl }

@@ -1,4 +1,4 @@
-use Rattle.std.proofs.Common.{◌≡◌, ℕ, suc, ◌+◌, ◌*◌, ◌<◌, ◌≤◌, true, false, cond, not, List, length, get_or, drop, Some, None, Err, Option, sym, refl, ap, ◌∙◌, arith}
+use Rattle.std.proofs.Common.{◌≡◌, ℕ, ◌<◌, ◌≤◌, true, false, cond, List, length, get_or, drop, Some, Err, sym, refl, ap, ◌∙◌, arith}
 use Rattle.std.specs.Option.{option_map}
 use Rattle.tape.specs.declared.item.Kind.{Kind}
 use Rattle.tape.specs.declared.item.Kind.TheVariants as told
@@ -6,11 +6,10 @@ use Rattle.tape.specs.declared.transport.Fault.TheVariants.{TurnedDown}
 use Rattle.tape.specs.Items.{Item, mark, proper, kind_of}
 use Rattle.tape.specs.Tape.{here, first, next_item, read_next, fits_in, filled}
 use Rattle.tape.proofs.Attempts.{read_failed, read_short, read_done, next_there, none_there}
-use Rattle.line_text.specs.Lines.{line_size}
 use Rattle.line_text.proofs.OneLine.{mark_size, block_size, mark_fits}
 use Rattle.line.specs.declared.line_transport.LineTransport.{LineTransport}
 use Rattle.line.specs.Meaning.{line_tape, sure}
-use Rattle.line.specs.Facts.{head_items, here_count, items_of_here, proper_here}
+use Rattle.line.proofs.Facts.{here_count, items_of_here, proper_here}
 use Rattle.line.proofs.line_transport.interface.LineTransportTransport.read.Goals as goal
 
 abbrev items : LineTransport → List Item
@@ -28,11 +27,11 @@ returns-then-self c =
     let e = read_failed sure t c.args.buffer.now c.if-self.true (next_item t) in
     record { does = (sure, e); exact = e; settings = refl }
 
-pub returns-in-default : goal.returns-in-default
-returns-in-default c =
+pub returns-in_default : goal.returns-in_default
+returns-in_default c =
     let x = c.args.self.now in
     let t = line_tape x in
-    let e = sym (ap (read_next sure t c.args.buffer.now) (none_there (items x) x.item c.in-default.ensures)) in
+    let e = sym (ap (read_next sure t c.args.buffer.now) (none_there (items x) x.item c.in_default.ensures)) in
     record { does = (sure, e); exact = e; settings = refl }
 
 pub pass-requires : goal.pass-requires
@@ -51,31 +50,31 @@ returns-in-Mark c =
     let e = read_done sure t buffer (next x) c.in-Some.kind buffer (line_tape c.pass.new.self) c.if-self.false f.0 refl (sym n.2) (sym f.1) c.pass.ensures.tape ∙ sym (ap (read_next sure t buffer) n.1) in
     record { does = (sure, e); exact = e; settings = c.pass.ensures.settings }
 
-pub copy-bytes-requires : goal.copy-bytes-requires
-copy-bytes-requires c =
+pub copy_bytes-requires : goal.copy_bytes-requires
+copy_bytes-requires c =
     let x = c.args.self.now in
     let n = next_there (items x) x.item c.in-Some.kind c.in-Some.ensures in
     record { inside = n.0; kind = n.2 ∙ c.in-Block.is }
 
-pub returns-then-not-copy-bytes : goal.returns-then-not-copy-bytes
-returns-then-not-copy-bytes c =
+pub returns-then-not-copy_bytes : goal.returns-then-not-copy_bytes
+returns-then-not-copy_bytes c =
     let x = c.args.self.now in
     let t = line_tape x in
     let buffer = c.args.buffer.now in
     let n = next_there (items x) x.item c.in-Some.kind c.in-Some.ensures in
-    let short : fits_in (next x) buffer ≡ false = sym c.copy-bytes.ensures.told ∙ c.if-not-copy-bytes.true in
-    let same : c.copy-bytes.new.buffer ≡ buffer = c.copy-bytes.ensures.bytes ∙ ap (λ b. cond b (filled buffer (next x)) buffer) c.if-not-copy-bytes.true in
+    let short : fits_in (next x) buffer ≡ false = sym c.copy_bytes.ensures.told ∙ c.if-not-copy_bytes.true in
+    let same : c.copy_bytes.new.buffer ≡ buffer = c.copy_bytes.ensures.bytes ∙ ap (λ b. cond b (filled buffer (next x)) buffer) c.if-not-copy_bytes.true in
     let e = (λ j. (Err TurnedDown, same j, t)) ∙ read_short sure t buffer (next x) short ∙ sym (ap (read_next sure t buffer) n.1) in
     record { does = (sure, e); exact = e; settings = refl }
 
 few : (x : LineTransport) (k : Kind) (size : ℕ) → Some k ≡ option_map kind_of (first (drop x.item (items x))) → k ≡ told.Block size → size ≤ 256
 few x k size s e = let n = next_there (items x) x.item k s in (block_size (next x) size (n.2 ∙ e) (next_proper x n.0)).1
 
-pub overflow-mul-size : goal.overflow-mul-size
-overflow-mul-size c = omega (arith, few c.args.self.now c.in-Some.kind c.in-Block.size c.in-Some.ensures c.in-Block.is)
+pub overflow_mul-size : goal.overflow_mul-size
+overflow_mul-size c = omega (arith, few c.args.self.now c.in-Some.kind c.in-Block.size c.in-Some.ensures c.in-Block.is)
 
-pub overflow-add-size : goal.overflow-add-size
-overflow-add-size c = omega (arith, few c.args.self.now c.in-Some.kind c.in-Block.size c.in-Some.ensures c.in-Block.is)
+pub overflow_add-size : goal.overflow_add-size
+overflow_add-size c = omega (arith, few c.args.self.now c.in-Some.kind c.in-Block.size c.in-Some.ensures c.in-Block.is)
 
 pub pass-requires-in-Block : goal.pass-requires-in-Block
 pass-requires-in-Block c =
@@ -83,13 +82,13 @@ pass-requires-in-Block c =
     let n = next_there (items x) x.item c.in-Some.kind c.in-Some.ensures in
     record { inside = n.0; size = sym (block_size (next x) c.in-Block.size (n.2 ∙ c.in-Block.is) (next_proper x n.0)).0 }
 
-pub returns-else-not-copy-bytes : goal.returns-else-not-copy-bytes
-returns-else-not-copy-bytes c =
+pub returns-else-not-copy_bytes : goal.returns-else-not-copy_bytes
+returns-else-not-copy_bytes c =
     let x = c.args.self.now in
     let t = line_tape x in
     let buffer = c.args.buffer.now in
     let n = next_there (items x) x.item c.in-Some.kind c.in-Some.ensures in
-    let long : fits_in (next x) buffer ≡ true = sym c.copy-bytes.ensures.told ∙ c.if-not-copy-bytes.false in
-    let bytes : c.copy-bytes.new.buffer ≡ filled buffer (next x) = c.copy-bytes.ensures.bytes ∙ ap (λ b. cond b (filled buffer (next x)) buffer) c.if-not-copy-bytes.false in
-    let e = read_done sure t buffer (next x) (told.Block c.in-Block.size) c.copy-bytes.new.buffer (line_tape c.pass-in-Block.new.self) c.if-self.false long refl (sym (n.2 ∙ c.in-Block.is)) bytes c.pass-in-Block.ensures.tape ∙ sym (ap (read_next sure t buffer) n.1) in
+    let long : fits_in (next x) buffer ≡ true = sym c.copy_bytes.ensures.told ∙ c.if-not-copy_bytes.false in
+    let bytes : c.copy_bytes.new.buffer ≡ filled buffer (next x) = c.copy_bytes.ensures.bytes ∙ ap (λ b. cond b (filled buffer (next x)) buffer) c.if-not-copy_bytes.false in
+    let e = read_done sure t buffer (next x) (told.Block c.in-Block.size) c.copy_bytes.new.buffer (line_tape c.pass-in-Block.new.self) c.if-self.false long refl (sym (n.2 ∙ c.in-Block.is)) bytes c.pass-in-Block.ensures.tape ∙ sym (ap (read_next sure t buffer) n.1) in
     record { does = (sure, e); exact = e; settings = c.pass-in-Block.ensures.settings }

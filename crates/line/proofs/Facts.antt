@@ -1,20 +1,19 @@
 -- What a line transport's invariant gives. Assumes nothing.
-use Rattle.std.specs.Prelude.{◌≡◌, ℕ, zero, suc, ◌+◌, ◌/◌, ◌%◌, ◌<◌, ◌≤◌, Bool, true, false, not, ◌&&◌, List, [], ◌∷◌, ◌++◌, length, get_or, drop, vec_items, ◌==◌, nat_le, nat_lt, slice_index_or, refl}
-use Rattle.std.proofs.Common.{sym, ap, subst, ◌∙◌, ⊎_elim, arith, length-drop, length-append, lt-ltb}
-use Rattle.std.proofs.lemmas.List.{length-map}
+use Rattle.std.specs.Prelude.{◌≡◌, ℕ, zero, suc, ◌+◌, ◌/◌, ◌%◌, ◌<◌, ◌≤◌, true, false, not, ◌&&◌, List, [], ◌∷◌, ◌++◌, length, get_or, drop, vec_items, ◌==◌, nat_le, nat_lt, slice_index_or, refl}
+use Rattle.std.proofs.Common.{sym, ap, ◌∙◌, ⊎_elim, arith, length-drop, length-append, lt-ltb}
 use Rattle.std.proofs.lemmas.Bool.{and_parts, eqb-false}
 use Rattle.std.proofs.str.Laws.{order}
 use Rattle.tape.specs.Items.{Item, mark, proper}
-use Rattle.tape.specs.Sound.{all_proper, Sound, SoundTrack, EveryTrack}
+use Rattle.tape.specs.Sound.{all_proper}
 use Rattle.tape.specs.Tape.{Track, here, at_end, any_items, no_items, on_last_track}
 use Rattle.line_text.specs.declared.span.Span.{Span}
-use Rattle.line_text.specs.Layout.{items_in, blank_span, span_items, track_of, image_of, sound_span}
+use Rattle.line_text.specs.Layout.{items_in, blank_span, span_items, track_of}
 use Rattle.line_text.specs.Lines.{line, line_size, small_item}
-use Rattle.line_text.proofs.Counts.{sound_facts}
+use Rattle.line_text.specs.Facts.{length_items_in}
 use Rattle.line_text.proofs.OneLine.{length_line}
 use Rattle.line_text.proofs.Laid.{Laid, track_at, line_at}
 use Rattle.line_text.proofs.Blank.{Last, later_blank, any_counted}
-use Rattle.line_text.proofs.Rows.{length_items_in, all_small, items_in_small}
+use Rattle.line_text.proofs.Rows.{all_small, items_in_small}
 use Rattle.line.specs.declared.line_transport.LineTransport.{LineTransport}
 use Rattle.line.specs.Meaning.{line_tape}
 
@@ -81,37 +80,6 @@ all_small_at (i ∷ is) (suc n) p h = all_small_at is n (and_parts (small_item i
 
 pub small_here : (x : LineTransport) → x.item < (head_span x).count → small_item (slice_index_or (head_items x) x.item mark) ≡ true
 small_here x h = all_small_at (head_items x) x.item (items_in_small (head_span x).count (drop (head_span x).start (vec_items x.text))) (rw (length_items_in (head_span x).count (drop (head_span x).start (vec_items x.text))) h)
-
--- a sound span's track is sound
-sound_track : (text : List ℕ) (s : Span) → sound_span s ≡ true → all_proper (span_items text s) ≡ true → SoundTrack (track_of text s)
-sound_track text s h p =
-    let f = sound_facts s h in
-    let n = length_items_in s.count (drop s.start text) in
-    record {
-      blocks = p;
-      few = omega (arith, f.few, n);
-      unmarked = λ e. let u = f.unmarked e in (omega (arith, u.0, n), u.1);
-      marked = λ e. let m = f.marked e in (omega (arith, m.0, n), m.1, omega (arith, m.2, n));
-    }
-
-every_from : (text : List ℕ) (spans : List Span) → ((k : ℕ) → k < length spans → SoundTrack (track_of text (slice_index_or spans k blank_span))) → EveryTrack (image_of text spans)
-every_from text [] h = tt
-every_from text (s ∷ spans) h = (h 0 (omega arith), every_from text spans (λ k l. h (suc k) (omega arith)))
-
-pub sound_of : (x : LineTransport) → Sound (line_tape x)
-sound_of x =
-    let text = vec_items x.text in
-    let spans = vec_items x.spans in
-    let n = length-map spans (track_of text) in
-    record {
-      some_track = x.bounds.0;
-      few_tracks = x.bounds.1;
-      whole_volumes = ap (λ m. m % x.tracks) n ∙ x.bounds.2;
-      few_volumes = rw n (omega (arith, x.bounds.3, x.bounds.4));
-      head_track = omega (arith, n, x.head.0);
-      head_item = omega (arith, here_count x, x.head.1);
-      every_track = every_from text spans (λ k h. sound_track text (slice_index_or spans k blank_span) (x.sound k h) (x.propers k h));
-    }
 
 -- a track that is not the last of its volume has a next one
 pub next_inside : (x : LineTransport) → on_last_track (line_tape x) ≡ false → x.at + 1 < length (vec_items x.spans)
