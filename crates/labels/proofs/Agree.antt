@@ -1,5 +1,5 @@
 -- Fields agree where they are equal. Assumes nothing.
-use Rattle.std.proofs.Common.{◌≡◌, Bool, true, eqb, Decides, ap}
+use Rattle.std.proofs.Common.{◌≡◌, true, eqb, Decides, ap}
 use Rattle.std.proofs.lemmas.Slice.Eq.{bytes_eq-Decides}
 use Rattle.std.proofs.lemmas.Bool.{and_parts, and_from}
 use Rattle.std.proofs.lemmas.Bool.Decides.{Decides-eqb}

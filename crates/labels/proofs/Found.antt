@@ -1,8 +1,8 @@
 -- The parts that are cut off a block one after the other stand at their places. Assumes nothing.
-use Rattle.std.proofs.Common.{◌≡◌, ℕ, ◌+◌, cond, eqb, List, length, take, drop, Some, None, Option, sym, ap, ◌∙◌, arith}
+use Rattle.std.proofs.Common.{◌≡◌, ℕ, ◌+◌, eqb, List, length, take, drop, Some, None, sym, ap, ◌∙◌, arith}
 use Rattle.std.proofs.lemmas.List.{drop-drop}
 use Rattle.std.proofs.lemmas.Bool.{cond-true, eq-eqb}
-use Rattle.labels.specs.Layout.{LabelParts, parts_of}
+use Rattle.labels.specs.Layout.{parts_of}
 use Rattle.labels.specs.Reading.{found_parts}
 
 -- `y` is the first n bytes of xs, and zs what is left

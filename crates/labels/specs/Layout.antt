@@ -1,6 +1,6 @@
 -- The layout of a label: 1 kind, 2-5 volume, 6-13 file identifier, 14-15 section, 16-20 creation date,
 -- 21-23 retention days, 24-27 block count, 28 data code, 29-32 user. Assumes nothing.
-use Rattle.std.specs.Prelude.{ℕ, Bool, true, false, ◌&&◌, List, [], ◌∷◌, length, take, drop, Some, None, Option, ◌==◌}
+use Rattle.std.specs.Prelude.{ℕ, Bool, false, ◌&&◌, List, [], ◌∷◌, length, take, drop, Some, None, Option, ◌==◌}
 use Rattle.labels.specs.declared.characters.CharSet.TheVariants.{Text, Digits}
 use Rattle.labels.specs.declared.kind.LabelKind.{LabelKind}
 use Rattle.labels.specs.Characters.{is_part, number, lawful_date}

@@ -4,7 +4,6 @@ ghost use Rattle.std.specs.Str.{bytes_eq};
 ghost use Rattle.labels.specs.Given.{lawful_fields, same_fields};
 ghost use Rattle.std.specs.Cmp.Rules.{comparing};
 ghost use Rattle.std.proofs.Common.{rules};
-ghost use Rattle.std.specs.Cmp as Keys;
 
 use crate::characters::{CharSet, is_date, is_n_character, is_part};
 
@@ -24,11 +23,15 @@ pub struct Fields {
 }
 
 impl PartialEq for Fields {
-    ghost equals = { λ x y r. Decides r (x ≡ y) };
+    ghost eq = { same_fields };
 
-    ghost laws = { Keys.partial_equiv_from_equiv (Prim.search (comparing, rules)) };
+    ghost laws = { Prim.search (comparing, rules) };
 
-    fn eq(&self, other: &Fields) -> bool {
+    #[tactic(auto, using(crate::proofs::Agree::same_fields_decides))]
+    fn eq(&self, other: &Fields) -> bool
+        ensures same { result ≡ same_fields self.now other.now }
+        ensures equal { Decides result (self.now ≡ other.now) }
+    {
         self.agrees(other)
     }
 }
