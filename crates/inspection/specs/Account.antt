@@ -1,5 +1,5 @@
 -- The account of a cassette: the lines of its items, track by track, with totals. Assumes nothing.
-use Rattle.std.specs.Prelude.{◌≡◌, ℕ, suc, ◌+◌, ◌/◌, ◌%◌, Bool, true, false, cond, List, [], ◌∷◌, ◌++◌, length, Some, None, Option, ◌==◌}
+use Rattle.std.specs.Prelude.{◌≡◌, ℕ, suc, ◌+◌, ◌/◌, ◌%◌, cond, List, [], ◌∷◌, ◌++◌, length, Some, None, Option, ◌==◌}
 use Rattle.tape.specs.declared.place.Place.{Place}
 use Rattle.tape.specs.declared.refusal.Reason.TheVariants.{Unlawful}
 use Rattle.tape.specs.Items.{Item, kind_of}

@@ -1,8 +1,7 @@
-use Rattle.std.proofs.Common.{◌≡◌, ℕ, ◌/◌, List, ◌++◌, length, vec_items, sym, refl, ap, ◌∙◌, subst, append_assoc}
+use Rattle.std.proofs.Common.{◌≡◌, ℕ, ◌/◌, List, ◌++◌, length, vec_items, ap, ◌∙◌, append_assoc}
 use Rattle.line.specs.Meaning.{line_tape}
-use Rattle.inspection.specs.Amounts.{no_totals}
 use Rattle.inspection.specs.Lines.{settings_line, total_line}
-use Rattle.inspection.specs.Account.{tracks_lines, all_totals, with_items}
+use Rattle.inspection.specs.Account.{tracks_lines}
 use Rattle.inspection.proofs.account.put_tape.Goals as goal
 
 pub returns : goal.returns

@@ -1,10 +1,10 @@
-use Rattle.std.proofs.Common.{◌≡◌, ℕ, suc, ◌<◌, ◌≤◌, List, [], ◌∷◌, ◌++◌, length, drop, Some, None, vec_items, Option, sym, refl, ap, ◌∙◌, subst, subst₂, arith}
+use Rattle.std.proofs.Common.{◌≡◌, ℕ, suc, ◌<◌, List, ◌∷◌, ◌++◌, length, drop, Some, None, vec_items, Option, sym, ap, ◌∙◌, subst₂, arith}
 use Rattle.std.proofs.lemmas.List.{drop_all}
 use Rattle.tape.specs.Items.{Item, kind_of}
 use Rattle.tape.specs.Tape.{Tape, here, head_to, next_item}
 use Rattle.line.specs.Meaning.{line_tape}
 use Rattle.inspection.specs.declared.totals.Totals.{Totals}
-use Rattle.inspection.specs.Amounts.{totals_from, totals_of, counted}
+use Rattle.inspection.specs.Amounts.{totals_from, counted}
 use Rattle.inspection.specs.Items.{item_line}
 use Rattle.inspection.specs.Account.{PutNext, NextPut, place_of, item_lines}
 use Rattle.inspection.proofs.Gave.{put_none, put_some, left_more, left_none, lines_more, lines_none}

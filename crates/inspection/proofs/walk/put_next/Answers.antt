@@ -1,7 +1,6 @@
-use Rattle.std.proofs.Common.{◌≡◌, ℕ, suc, ◌-◌, List, ◌++◌, length, take, Some, None, vec_items, Option, sym, refl, ap, ◌∙◌, subst, arith}
+use Rattle.std.proofs.Common.{◌≡◌, ℕ, suc, ◌-◌, List, ◌++◌, take, Some, None, vec_items, Option, sym, refl, ap, ◌∙◌, subst, arith}
 use Rattle.tape.specs.declared.item.Kind.TheVariants as told
-use Rattle.tape.specs.declared.place.Place.{Place}
-use Rattle.tape.specs.Items.{Item, mark, block, item_of, kind_of}
+use Rattle.tape.specs.Items.{Item, block, kind_of}
 use Rattle.tape.specs.Tape.{Tape, next_item, head_to, head_place}
 use Rattle.line.specs.Meaning.{line_tape}
 use Rattle.inspection.specs.declared.totals.Totals.{Totals}
@@ -22,16 +21,16 @@ returns-in_default c =
     let g = gave_none t _ c.requires (next_item t) _ _ _ (λ i. next_fits x _ i refl) c.in_default.ensures.exact in
     subst (λ (m : Option Item). NextPut t (vec_items c.args.out.now) c.args.totals m None (line_tape c.read.new.self) (vec_items c.args.out.now)) (sym g.0) (refl, g.1, refl)
 
-pub returns-in_ok-put_item : goal.returns-in_ok-put_item
-returns-in_ok-put_item c =
+pub returns-in_ok-put_item-in-Mark : goal.returns-in_ok-put_item-in-Mark
+returns-in_ok-put_item-in-Mark c =
     let x = c.args.tape.now in
     let t = line_tape x in
     let g = gave_some t _ c.requires (next_item t) c.in-Ok.kind _ _ (λ i. next_fits x _ i refl) c.in-Ok.ensures.exact in
     let kind : kind_of g.0 ≡ told.Mark = g.2 ∙ c.in-Mark.is in
-    stepped t (vec_items c.args.out.now) _ c.args.totals _ (next_item t) _ g.0 g.1 (c.with.ensures ∙ ap (counted c.args.totals) (sym kind)) g.4 (c.in_ok-put_item.ensures ∙ (λ j. vec_items c.args.out.now ++ item_line (c.place-place.ensures j) ((c.a_mark.ensures ∙ sym (is_mark g.0 kind)) j)))
+    stepped t (vec_items c.args.out.now) _ c.args.totals _ (next_item t) _ g.0 g.1 (c.with.ensures ∙ ap (counted c.args.totals) (sym kind)) g.4 (c.in_ok-put_item-in-Mark.ensures ∙ (λ j. vec_items c.args.out.now ++ item_line (c.place-place.ensures j) ((c.a_mark.ensures ∙ sym (is_mark g.0 kind)) j)))
 
-pub returns-in_ok-put_item-2 : goal.returns-in_ok-put_item-2
-returns-in_ok-put_item-2 c =
+pub returns-in_ok-put_item-in-Block : goal.returns-in_ok-put_item-in-Block
+returns-in_ok-put_item-in-Block c =
     let x = c.args.tape.now in
     let t = line_tape x in
     let g = gave_some t _ c.requires (next_item t) c.in-Ok.kind _ _ (λ i. next_fits x _ i refl) c.in-Ok.ensures.exact in
@@ -39,4 +38,4 @@ returns-in_ok-put_item-2 c =
     let kind : kind_of g.0 ≡ told.Block size = g.2 ∙ c.in-Block.is in
     let whole : size - 0 ≡ size = omega arith in
     let bytes : block (take (size - 0) c.read.new.buffer) ≡ g.0 = (λ j. block (take (whole j) (g.3 j))) ∙ sym (is_block g.0 size _ kind) in
-    stepped t (vec_items c.args.out.now) _ c.args.totals _ (next_item t) _ g.0 g.1 (c.with-in-Block.ensures ∙ ap (counted c.args.totals) (sym kind)) g.4 (c.in_ok-put_item-2.ensures ∙ (λ j. vec_items c.args.out.now ++ item_line (c.place-place.ensures j) (bytes j)))
+    stepped t (vec_items c.args.out.now) _ c.args.totals _ (next_item t) _ g.0 g.1 (c.with-in-Block.ensures ∙ ap (counted c.args.totals) (sym kind)) g.4 (c.in_ok-put_item-in-Block.ensures ∙ (λ j. vec_items c.args.out.now ++ item_line (c.place-place.ensures j) (bytes j)))

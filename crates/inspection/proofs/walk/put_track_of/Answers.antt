@@ -1,9 +1,7 @@
-use Rattle.std.proofs.Common.{◌≡◌, ℕ, ◌+◌, ◌/◌, ◌%◌, Bool, true, false, List, ◌++◌, length, get_or, vec_items, sym, refl, ap, ◌∙◌, subst, append_assoc, lt-ltb}
+use Rattle.std.proofs.Common.{◌≡◌, ◌+◌, ◌/◌, ◌%◌, Bool, true, false, ◌++◌, length, get_or, vec_items, sym, refl, ap, ◌∙◌, append_assoc, lt-ltb}
 use Rattle.std.proofs.iter.Next.{first_way}
-use Rattle.tape.specs.declared.place.Place.{Place}
 use Rattle.tape.specs.Tape.{Tape, blank_track, here, head_to}
 use Rattle.line.specs.Meaning.{line_tape}
-use Rattle.inspection.specs.declared.totals.Totals.{Totals}
 use Rattle.inspection.specs.Amounts.{totals_of}
 use Rattle.inspection.specs.Lines.{track_line}
 use Rattle.inspection.specs.Account.{item_lines}

@@ -1,9 +1,9 @@
-use Rattle.std.proofs.Common.{◌≡◌, ℕ, ◌<◌, cond, eqb, List, ◌++◌, length, get_or, drop, vec_items, sym, refl, ap, ◌∙◌, subst, arith}
+use Rattle.std.proofs.Common.{◌≡◌, ◌<◌, cond, eqb, ◌++◌, length, get_or, vec_items, sym, refl, ap, ◌∙◌, arith}
 use Rattle.std.proofs.lemmas.Result.{err_from_is_err_and}
 use Rattle.tape.specs.Tape.{Tape, blank_track, head_to}
 use Rattle.line.specs.Meaning.{line_tape}
 use Rattle.inspection.specs.declared.totals.Totals.{Totals}
-use Rattle.inspection.specs.Amounts.{no_totals, sum, together, totals_of}
+use Rattle.inspection.specs.Amounts.{sum, together, totals_of}
 use Rattle.inspection.specs.Account.{track_lines, all_totals}
 use Rattle.inspection.proofs.Summed.{tracks_more, totals_more, count_more, tracks_all, totals_all, count_all}
 use Rattle.inspection.proofs.walk.put_tracks.Goals as goal
