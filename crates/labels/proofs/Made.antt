@@ -1,5 +1,5 @@
 -- A made label: where its parts stand, that it is lawful, and what reading it gives. Assumes nothing.
-use Rattle.std.proofs.Common.{◌≡◌, ℕ, ◌+◌, ◌-◌, ◌/◌, ◌%◌, ◌≤◌, true, ◌&&◌, leb, List, [], ◌∷◌, ◌++◌, length, take, drop, Some, Ok, sym, refl, ap, ◌∙◌, append_assoc, arith}
+use Rattle.std.proofs.Common.{◌≡◌, ℕ, ◌+◌, ◌-◌, ◌/◌, ◌%◌, ◌≤◌, true, ◌&&◌, leb, List, [], ◌∷◌, ◌++◌, length, take, drop, Some, Ok, sym, subst, refl, ap, ◌∙◌, append_assoc, arith}
 use Rattle.std.proofs.lemmas.List.{take_all, drop_all, take_at, drop_at, length-append}
 use Rattle.std.proofs.lemmas.Bool.{and_parts, and_from, leb-true, le-leb, cond-true}
 use Rattle.labels.specs.declared.characters.CharSet.TheVariants.{Text, Digits}
@@ -11,7 +11,7 @@ use Rattle.labels.specs.Kinds.{kind_character, kind_from, count_fits}
 use Rattle.labels.specs.Layout.{LabelParts, parts_of, lawful_parts, lawful_behind, lawful_label}
 use Rattle.labels.specs.Given.{lawful_volume, lawful_fields, lawful_given, label_bytes}
 use Rattle.labels.specs.Reading.{found_parts, reading}
-use Rattle.labels.specs.Laws.{GivesBack}
+use Rattle.labels.specs.Laws.{GivesBack, ReadsBack}
 use Rattle.labels.proofs.Bounds.{part_length}
 use Rattle.labels.proofs.Found.{Cut, found}
 use Rattle.labels.proofs.Behind.{reading_behind, reading_found, some_if}
@@ -176,3 +176,17 @@ pub gives_back : GivesBack
 gives_back k v f s n e =
     let l = lawful k v f s n e in
     (made_lawful k v f s n e, (parts_given v f s n, made_read k v f s n e, refl, refl, two_back s l.section, four_back n l.count))
+
+pub reads_back : (k : LabelKind) (v : List ℕ) (f : Fields) (s n : ℕ) → lawful_given k v f s n ≡ true → (bs : List ℕ) → bs ≡ label_bytes k v f s n → ReadsBack k v f s n bs
+reads_back k v f s n e bs is =
+    let g = gives_back k v f s n e in
+    let of_made : ReadsBack k v f s n (label_bytes k v f s n) = record {
+      parts = g.1.0;
+      lawful = g.0;
+      read = g.1.1;
+      volume = g.1.2;
+      fields = g.1.3;
+      section = g.1.4;
+      count = g.1.5;
+    } in
+    subst (ReadsBack k v f s n) (sym is) of_made

@@ -19,3 +19,14 @@ GivesBack =
     × (fields_of p ≡ f)
     × (number p.section ≡ s)
     × (number p.count ≡ n))
+
+-- The bytes are a lawful label, and reading them gives this kind, and parts that tell this volume,
+-- these fields, this section and this count.
+pub record ReadsBack (k : LabelKind) (v : List ℕ) (f : Fields) (s n : ℕ) (bs : List ℕ) : Type 0 where
+  pub parts : LabelParts
+  pub lawful : lawful_label bs ≡ true
+  pub read : reading bs ≡ Ok (k, parts)
+  pub volume : parts.volume ≡ v
+  pub fields : fields_of parts ≡ f
+  pub section : number parts.section ≡ s
+  pub count : number parts.count ≡ n

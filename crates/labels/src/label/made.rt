@@ -1,7 +1,8 @@
 //! Making a label, and handing its bytes out.
-ghost use Rattle.std.specs.Prelude.{◌≡◌, ◌+◌, ◌≤◌, ◌++◌, length, take};
+ghost use Rattle.std.specs.Prelude.{◌≡◌, ◌+◌, ◌≤◌, ◌++◌, length, take, IfOk};
 ghost use Rattle.labels.specs.Characters.{two_digits, four_digits};
 ghost use Rattle.labels.specs.Given.{lawful_volume, lawful_given, label_bytes};
+ghost use Rattle.labels.specs.Laws.{ReadsBack};
 ghost use Rattle.labels.specs.Made.{bytes_of, made_bytes, making};
 
 use crate::characters::{CharSet, is_part};
@@ -90,7 +91,8 @@ impl Label {
         section: u8,
         count: u16,
     ) -> Result<Label, Reason>
-        ensures { made_bytes result ≡ making kind volume fields section count }
+        ensures bytes { made_bytes result ≡ making kind volume fields section count }
+        ensures read_back { IfOk result (λ l. ReadsBack kind volume fields section count (bytes_of l)) }
     {
         if !are_lawful(kind, volume, fields, section, count) {
             return Err(Reason::Unlawful);
