@@ -10,6 +10,7 @@ use crate::walk::put_tracks;
 use line::line_transport::LineTransport;
 use line::settings::Settings;
 use std::alloc::{AllocError, Global};
+use tape::bounds::LAST_MARKER;
 use tape::refusal::{Reason, SetupError};
 use tape::transport::Transport;
 
@@ -44,7 +45,7 @@ pub fn account(heap: Global, tracks: usize, text: &[u8]) -> Result<Vec<u8>, Allo
     let settings = Settings {
         tracks,
         volumes: 49,
-        marker: 60000,
+        marker: LAST_MARKER,
         room: text.len(),
     };
     match LineTransport::new(heap, settings) {

@@ -2,6 +2,8 @@
 ghost use Rattle.std.specs.Prelude.{◌≡◌};
 ghost use Rattle.line.specs.Settings.{lawful_settings};
 
+use tape::bounds::{FIRST_MARKER, LAST_MARKER, MOST_TRACKS, MOST_VOLUMES};
+
 /// Tracks of a volume (1 or 2); volumes in all (1 to 49), the first of them mounted from the start;
 /// the write that meets each track's marker (3 to 60,000); and the room for the text in bytes.
 #[derive(Clone, Copy)]
@@ -18,10 +20,10 @@ impl Settings {
         ensures { result ≡ lawful_settings self.now }
     {
         1 <= self.tracks
-            && self.tracks <= 2
+            && self.tracks <= MOST_TRACKS
             && 1 <= self.volumes
-            && self.volumes <= 49
-            && 3 <= self.marker
-            && self.marker <= 60000
+            && self.volumes <= MOST_VOLUMES
+            && FIRST_MARKER <= self.marker
+            && self.marker <= LAST_MARKER
     }
 }

@@ -10,6 +10,7 @@ ghost use Rattle.line.specs.Taken.{track_named, goes_on, grown_tape, laid_there,
 use super::LineTransport;
 use crate::text::{put_blanks, put_line};
 use line_text::lines::{track_of_line, volume_of_line};
+use tape::bounds::MOST_ITEMS;
 use tape::item::ItemRef;
 use tape::place::Place;
 
@@ -35,7 +36,7 @@ impl LineTransport {
     pub(super) fn goes_on(&self, k: usize) -> bool
         ensures { result ≡ goes_on self.now.volumes (line_tape self.now) k }
     {
-        k < self.volumes * self.tracks && self.at <= k && self.count_of(k) < 99999
+        k < self.volumes * self.tracks && self.at <= k && self.count_of(k) < MOST_ITEMS
     }
 
     pub(super) fn grow_to(&mut self, k: usize)
