@@ -4,10 +4,12 @@
 usage: python3 tools/spell_names.py [--also]   at the top, once, after the toolchain's port.py
 
 A name is respelled if it has a hyphen, stands somewhere in a crate's definitions, proofs or clauses
-without a dot before it, and is neither imported from the library nor the name of a goal. Comments,
-strings, code, inputs and outputs stay; pages and must-fail edits get the new names where they cite
-one. The script stops before it writes where two names would fall together; with --also it goes on, which is
-right here: each of them is a definition that has the name of the function of src/ that computes it.
+without a dot before it, and is neither imported from the library nor the name of a goal or of one of
+its places (then-.., else-.., in-.., if-..). Comments, strings, code, inputs and outputs stay; pages and
+must-fail edits get the new names where they cite one that this script respells. The script stops
+before it writes where a new name stands already; with --also it goes on. That is right here: each of
+the thirteen is a definition or lemma on one side and a function of src/, a goal or a clause on the
+other, and no file means both by it.
 """
 
 import collections

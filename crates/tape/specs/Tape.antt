@@ -18,7 +18,7 @@ most_volumes = 49
 abbrev pub most_items : ℕ
 most_items = 99999
 
--- a track's marker is met from its first-marker-th write to its last-marker-th
+-- the first and the last of a track's writes at which its marker may be met
 abbrev pub first_marker : ℕ
 first_marker = 3
 
@@ -122,7 +122,7 @@ takes_item marked since i = proper i && cond marked (nat_lt since writes_after &
 abbrev pub takes : Track → Item → Bool
 takes x i = takes_item x.marked x.since i
 
--- no write before a track's 3rd meets its marker, the 60,000th always does, and between them the transport chooses
+-- from a track's 3rd write to its 59,999th the transport chooses whether the marker is met; the 60,000th always meets it
 abbrev pub meets_at : Choice → ℕ → Bool
 meets_at c n = nat_le last_marker n || (nat_le first_marker n && c.meets)
 
@@ -161,7 +161,7 @@ mounted t = record {
   failed = t.failed;
 }
 
--- with the head behind every item there is, on a volume's last track, and a volume left
+-- with the head behind every item of an image that has some, on a volume's last track, and a volume left
 abbrev pub mount : Choice → Tape → Result (Unit {0}) Fault × Tape
 mount c t = attempt c (any_items t && at_end t && on_last_track t && nat_lt 0 t.left) t tt (mounted t)
 

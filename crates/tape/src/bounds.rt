@@ -1,4 +1,4 @@
-//! The bounds of the subject, each named once, and the size that a set may have.
+//! Bounds that several crates compare with, by name, and the size that a set may have.
 ghost use Rattle.std.specs.Prelude.{◌≡◌, true, ◌&&◌, nat_le};
 ghost use Rattle.tape.specs.Tape.{lawful_size, fresh};
 ghost use Rattle.tape.specs.Sound.{Sound};
@@ -17,14 +17,6 @@ pub const MOST_ITEMS: usize = 99_999;
 pub const FIRST_MARKER: usize = 3;
 
 pub const LAST_MARKER: usize = 60_000;
-
-/// The writes that a track takes behind its marker.
-pub const WRITES_AFTER: usize = 8;
-
-/// The bytes of a block, at most, and of one that a track takes behind its marker: a label's.
-pub const LONGEST_BLOCK: usize = 256;
-
-pub const LONGEST_LABEL: usize = 32;
 
 fn is_within(n: usize, most: usize) -> bool
     ensures { result ≡ (nat_le 1 n && nat_le n most) }

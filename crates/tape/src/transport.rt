@@ -1,7 +1,7 @@
 //! The interface of a tape transport.
 //!
 //! To fit a drive, give `tape`, which says what state your type stands for (the image, the head,
-//! the markers, the volumes to mount, the failure), show the law `sound` of it, and implement each
+//! the markers, the volumes to mount, the failure), and `sound`, the proof of the law; implement each
 //! function so that it does exactly what its definition says for some choice of yours. What you may
 //! choose is only this: at which write a track's marker is met, from its 3rd to its 60,000th, and
 //! that a function which applies fails. A function that cannot apply is turned down and changes
