@@ -8,6 +8,7 @@ ghost use Rattle.line.specs.Meaning.{line_tape, line_choice, settings_of, sure};
 ghost use Rattle.line.specs.Sound.{sound_of};
 
 use super::LineTransport;
+use super::reading::block_line;
 use tape::item::{ItemRef, Kind};
 use tape::place::Place;
 use tape::transport::{Fault, Transport};
@@ -121,7 +122,7 @@ impl Transport for LineTransport {
                 if !self.copy_bytes(size, buffer) {
                     return Err(Fault::TurnedDown);
                 }
-                self.pass(51 + 2 * size);
+                self.pass(block_line(size));
             }
         }
         Ok(kind)

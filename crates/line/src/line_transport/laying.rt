@@ -26,7 +26,7 @@ impl LineTransport {
     pub(super) fn count_of(&self, k: usize) -> usize
         ensures { result ≡ length (slice_index_or (line_tape self.now).image k blank_track).items }
     {
-        if k < self.spans.len() {
+        if self.has_track(k) {
             self.span(k).count
         } else {
             0

@@ -22,7 +22,7 @@ impl LineTransport {
     pub(super) fn is_at_end(&self) -> bool
         ensures { result ≡ at_end (line_tape self.now) }
     {
-        self.item == self.span(self.at).count && self.last <= self.at
+        self.is_past_track() && self.last <= self.at
     }
 
     pub(super) fn is_on_last_track(&self) -> bool

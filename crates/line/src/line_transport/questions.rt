@@ -1,5 +1,5 @@
 //! The questions: they never fail and change nothing.
-ghost use Rattle.std.specs.Prelude.{◌≡◌, ◌<◌, length, slice_index_or};
+ghost use Rattle.std.specs.Prelude.{◌≡◌, ◌<◌, length, nat_lt, slice_index_or};
 ghost use Rattle.tape.specs.Tape.{head_place, marker_met, any_items};
 ghost use Rattle.line_text.specs.Layout.{blank_span};
 ghost use Rattle.line.specs.Meaning.{line_tape};
@@ -15,6 +15,19 @@ impl LineTransport {
         ensures { result ≡ slice_index_or self.now.spans.items k blank_span }
     {
         self.spans[k]
+    }
+
+    // The number of tracks that are mounted.
+    pub(super) fn tracks_there(&self) -> usize
+        ensures { result ≡ length self.now.spans.items }
+    {
+        self.spans.len()
+    }
+
+    pub(super) fn has_track(&self, k: usize) -> bool
+        ensures { result ≡ nat_lt k (length self.now.spans.items) }
+    {
+        k < self.tracks_there()
     }
 
     pub(super) fn head_place(&self) -> Place

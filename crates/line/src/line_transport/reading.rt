@@ -1,8 +1,9 @@
 //! The line at the head is read, and passed.
-ghost use Rattle.std.specs.Prelude.{◌≡◌, suc, ◌<◌, length, if◌then◌else◌, slice_index_or};
+ghost use Rattle.std.specs.Prelude.{◌≡◌, ◌==◌, suc, ◌+◌, ◌*◌, ◌<◌, ◌≤◌, length, if◌then◌else◌, slice_index_or};
 ghost use Rattle.std.specs.Option.{option_map};
-ghost use Rattle.tape.specs.Items.{mark, kind_of};
+ghost use Rattle.tape.specs.Items.{mark, kind_of, longest_block};
 ghost use Rattle.tape.specs.Tape.{here, next_item, head_to, fits_in, filled};
+ghost use Rattle.line_text.specs.Layout.{blank_span};
 ghost use Rattle.line_text.specs.Lines.{line_size};
 ghost use Rattle.line.specs.Meaning.{line_tape, settings_of};
 
@@ -11,12 +12,27 @@ use crate::text::rest_of;
 use line_text::lines::{copy_block, kind_of_line};
 use tape::item::Kind;
 
+// The bytes of a block's line.
+pub(super) fn block_line(size: usize) -> usize
+    requires { size ≤ longest_block }
+    ensures { result ≡ 51 + 2 * size }
+{
+    51 + 2 * size
+}
+
 impl LineTransport {
+    // Whether the head has passed every item of its track.
+    pub(super) fn is_past_track(&self) -> bool
+        ensures { result ≡ (self.now.item == (slice_index_or self.now.spans.items self.now.at blank_span).count) }
+    {
+        self.item == self.span(self.at).count
+    }
+
     // The kind and length of the next item, or that the track has no more.
     pub(super) fn next_kind(&self) -> Option<Kind>
         ensures { result ≡ option_map kind_of (next_item (line_tape self.now)) }
     {
-        if self.item == self.span(self.at).count {
+        if self.is_past_track() {
             return None;
         }
         Some(kind_of_line(rest_of(self.text.as_slice(), self.pos)))

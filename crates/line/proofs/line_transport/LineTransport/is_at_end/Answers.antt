@@ -1,17 +1,13 @@
-use Rattle.std.proofs.Common.{◌&&◌, eqb, leb, sym, ap, ◌∙◌, eq-eqb, ne_eqb}
+use Rattle.std.proofs.Common.{◌&&◌, leb, sym, ap, ◌∙◌}
 use Rattle.std.proofs.lemmas.Bool.{and_left}
-use Rattle.line_text.specs.declared.span.Span.{Span}
 use Rattle.line.proofs.Facts.{end_of}
 use Rattle.line.proofs.line_transport.LineTransport.is_at_end.Goals as goal
 
-pub returns-then-self-span : goal.returns-then-self-span
-returns-then-self-span c =
+pub returns-then-is_past_track : goal.returns-then-is_past_track
+returns-then-is_past_track c =
     let x = c.args.self.now in
-    let same = ap (λ (s : Span). eqb x.item s.count) (sym c.span.ensures) ∙ eq-eqb x.item c.span.result.count c.if-self-span.true in
-    sym (end_of x ∙ ap (λ b. b && leb x.last x.at) same)
+    sym (end_of x ∙ ap (λ b. b && leb x.last x.at) (sym c.is_past_track.ensures ∙ c.if-is_past_track.true))
 
-pub returns-else-self-span : goal.returns-else-self-span
-returns-else-self-span c =
-    let x = c.args.self.now in
-    let apart = ne_eqb x.item c.span.result.count c.if-self-span.false in
-    apart ∙ sym (end_of x ∙ and_left _ _ (ap (λ (s : Span). eqb x.item s.count) (sym c.span.ensures) ∙ apart))
+pub returns-else-is_past_track : goal.returns-else-is_past_track
+returns-else-is_past_track c =
+    c.if-is_past_track.false ∙ sym (end_of c.args.self.now ∙ and_left _ _ (sym c.is_past_track.ensures ∙ c.if-is_past_track.false))

@@ -1,10 +1,10 @@
 use Rattle.std.proofs.Common.{◌<◌, length, get_or, drop, Some, vec_items, sym, ap, ◌∙◌, arith, drop-cons}
 use Rattle.std.specs.Option.{option_map}
 use Rattle.std.proofs.lemmas.List.{drop_all}
+use Rattle.std.proofs.lemmas.Bool.{eqb-true, eqb-false}
 use Rattle.tape.specs.Items.{mark, kind_of}
 use Rattle.tape.specs.Tape.{first}
 use Rattle.line_text.specs.Lines.{kind_in}
-use Rattle.line_text.specs.declared.span.Span.{Span}
 use Rattle.line_text.proofs.OneLine.{kind_of_own_line}
 use Rattle.line_text.specs.Facts.{length_items_in}
 use Rattle.line.proofs.Facts.{head_span, head_items, items_of_here, line_here, proper_here}
@@ -13,14 +13,13 @@ use Rattle.line.proofs.line_transport.LineTransport.next_kind.Goals.{After-as_sl
 
 inside : (c : After-as_slice) → c.args.self.now.item < (head_span c.args.self.now).count
 inside c =
-    let count = ap (λ (s : Span). s.count) c.span.ensures in
-    omega (arith, c.args.self.now.head.1, count, c.if-self-span.false)
+    omega (arith, c.args.self.now.head.1, eqb-false _ _ (sym c.is_past_track.ensures ∙ c.if-is_past_track.false))
 
-pub returns-then-self-span : goal.returns-then-self-span
-returns-then-self-span c =
+pub returns-then-is_past_track : goal.returns-then-is_past_track
+returns-then-is_past_track c =
     let x = c.args.self.now in
-    let count = ap (λ (s : Span). s.count) c.span.ensures in
-    sym (ap (λ l. option_map kind_of (first (drop x.item l))) (items_of_here x) ∙ ap (λ l. option_map kind_of (first l)) (drop_all x.item (head_items x) (omega (arith, count, c.if-self-span.true, length_items_in (head_span x).count (drop (head_span x).start (vec_items x.text))))))
+    let count = eqb-true _ _ (sym c.is_past_track.ensures ∙ c.if-is_past_track.true) in
+    sym (ap (λ l. option_map kind_of (first (drop x.item l))) (items_of_here x) ∙ ap (λ l. option_map kind_of (first l)) (drop_all x.item (head_items x) (omega (arith, count, length_items_in (head_span x).count (drop (head_span x).start (vec_items x.text))))))
 
 pub rest_of-requires : goal.rest_of-requires
 rest_of-requires c = omega (arith, ap length c.as_slice.ensures.value, (line_here c.args.self.now (inside c)).2)

@@ -70,17 +70,14 @@ returns-then-not-copy_bytes c =
 few : (x : LineTransport) (k : Kind) (size : ℕ) → Some k ≡ option_map kind_of (first (drop x.item (items x))) → k ≡ told.Block size → size ≤ 256
 few x k size s e = let n = next_there (items x) x.item k s in (block_size (next x) size (n.2 ∙ e) (next_proper x n.0)).1
 
-pub overflow_mul-size : goal.overflow_mul-size
-overflow_mul-size c = omega (arith, few c.args.self.now c.in-Some.kind c.in-Block.size c.in-Some.ensures c.in-Block.is)
-
-pub overflow_add-size : goal.overflow_add-size
-overflow_add-size c = omega (arith, few c.args.self.now c.in-Some.kind c.in-Block.size c.in-Some.ensures c.in-Block.is)
+pub block_line-requires : goal.block_line-requires
+block_line-requires c = few c.args.self.now c.in-Some.kind c.in-Block.size c.in-Some.ensures c.in-Block.is
 
 pub pass-requires-in-Block : goal.pass-requires-in-Block
 pass-requires-in-Block c =
     let x = c.args.self.now in
     let n = next_there (items x) x.item c.in-Some.kind c.in-Some.ensures in
-    record { inside = n.0; size = sym (block_size (next x) c.in-Block.size (n.2 ∙ c.in-Block.is) (next_proper x n.0)).0 }
+    record { inside = n.0; size = c.block_line.ensures ∙ sym (block_size (next x) c.in-Block.size (n.2 ∙ c.in-Block.is) (next_proper x n.0)).0 }
 
 pub returns-else-not-copy_bytes : goal.returns-else-not-copy_bytes
 returns-else-not-copy_bytes c =
