@@ -5,11 +5,11 @@ usage: python3 tools/spell_names.py [--also]   at the top, once, after the toolc
 
 A name is respelled if it has a hyphen, stands somewhere in a crate's definitions, proofs or clauses
 without a dot before it, and is neither imported from the library nor the name of a goal or of one of
-its places (then-.., else-.., in-.., if-..). Comments, strings, code, inputs and outputs stay; pages and
-must-fail edits get the new names where they cite one that this script respells. The script stops
-before it writes where a new name stands already; with --also it goes on. That is right here: each of
-the thirteen is a definition or lemma on one side and a function of src/, a goal or a clause on the
-other, and no file means both by it.
+its places (then-.., else-.., in-.., if-.., but for three of ours, in-old, in-room and in-set).
+Comments, strings, code, inputs and outputs stay; pages and must-fail edits get the new names where
+they cite one that this script respells. The script stops before it writes where a new name stands
+already; with --also it goes on. That is right here: each of the thirteen is a definition or lemma on
+one side and a function of src/, a goal or a clause on the other, and no file means both by it.
 """
 
 import collections
@@ -105,7 +105,7 @@ def main():
             open(path, "w", encoding="utf-8").write(new)
             changed += 1
     for root, dirs, files in os.walk("."):
-        dirs[:] = [d for d in dirs if d not in (".git", "out", "target")]
+        dirs[:] = [d for d in dirs if d not in (".git", "out")]
         for f in files:
             path = os.path.join(root, f)
             page = f.endswith(".md")

@@ -14,7 +14,7 @@ use std::alloc::AllocError;
 use tape::item::{ItemRef, Kind};
 use tape::transport::Transport;
 
-// The item that is a mark, made by a function since the checker wants to see its reference read.
+// The item that is a mark.
 fn a_mark<'a>() -> ItemRef<'a>
     ensures { item_of result ≡ mark }
 {

@@ -77,7 +77,7 @@ pub(crate) fn put_line(text: &mut Vec<u8>, place: Place, item: ItemRef<'_>)
     }
 }
 
-// The item that is a mark, made by a function since the checker wants to see its reference read.
+// The item that is a mark.
 pub(crate) fn a_mark<'a>() -> ItemRef<'a>
     ensures { item_of result ≡ mark }
 {

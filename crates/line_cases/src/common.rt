@@ -119,7 +119,7 @@ pub fn read_word(answer: Result<Kind, Fault>) -> &'static str {
     }
 }
 
-/// A mark, made by a function since the checker wants to see its reference read.
+/// A mark, as an item to be written.
 pub fn a_mark<'a>() -> ItemRef<'a> {
     ItemRef::Mark
 }

@@ -22,5 +22,6 @@ worked_examples = record {
   turned_down_first = (refl, refl);
   after_failure = λ c. (refl, refl, refl, refl, refl, refl, refl);
   questions = (refl, refl, refl, refl, refl, refl);
+  all_answers = (refl, refl);
   one_run = refl;
 }

@@ -3,7 +3,7 @@ use Rattle.std.specs.Prelude.{◌≡◌, ℕ, ◌+◌, true, false, List, [], �
 use Rattle.tape.specs.declared.item.Kind.TheVariants as told
 use Rattle.tape.specs.declared.transport.Fault.TheVariants.{TurnedDown, Failed}
 use Rattle.tape.specs.Items.{Item, mark, block}
-use Rattle.tape.specs.Tape.{Track, Tape, Choice, blank_track, meets_at, write, next_track, mount, following, rewind, look, read, head_place, marker_met, any_items, fresh}
+use Rattle.tape.specs.Tape.{Track, Tape, Choice, blank_track, meets_at, write, next_track, mount, following, rewind, look, read, head_place, marker_met, any_items, status_of, fresh}
 use Rattle.tape.specs.Runs.{writes, goes_to_next_track, mounts, rewinds, run}
 
 -- What the transport chooses: nothing, that the marker is met where it may be, that the function fails.
@@ -177,6 +177,12 @@ Questions =
     × ((broken 1 0).failed ≡ true)
     × (any_items (broken 1 0) ≡ true)
 
+-- All the answers at once: of the transport that has failed, and of a new one.
+abbrev pub AllAnswers : Type 0
+AllAnswers =
+    (status_of (broken 1 0) ≡ record { place = record { volume = 2; track = 1; item = 1 }; tracks = 1; marked = false; failed = true; recorded = true })
+    × (status_of (fresh 2 1) ≡ record { place = record { volume = 1; track = 1; item = 1 }; tracks = 2; marked = false; failed = false; recorded = false })
+
 -- A run from a new transport of two tracks and two volumes: an item on each track, then the second volume, and back.
 abbrev pub OneRun : Type 0
 OneRun =
@@ -209,4 +215,5 @@ pub record WorkedExamples : Type 0 where
   pub turned_down_first : TurnedDownFirst
   pub after_failure : AfterFailure
   pub questions : Questions
+  pub all_answers : AllAnswers
   pub one_run : OneRun

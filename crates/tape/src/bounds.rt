@@ -1,4 +1,4 @@
-//! Bounds that several crates compare with, by name, and the size that a set may have.
+//! Bounds that the crates above compare with, by name, and the size that a set may have.
 ghost use Rattle.std.specs.Prelude.{◌≡◌, true, ◌&&◌, nat_le};
 ghost use Rattle.tape.specs.Tape.{lawful_size, fresh};
 ghost use Rattle.tape.specs.Sound.{Sound};
@@ -13,9 +13,10 @@ pub const MOST_VOLUMES: usize = 49;
 /// The items of a track, at most.
 pub const MOST_ITEMS: usize = 99_999;
 
-/// The first and the last write of a track that may meet its end-of-tape marker.
+/// The first write of a track that may meet its end-of-tape marker.
 pub const FIRST_MARKER: usize = 3;
 
+/// The write of a track that meets its marker at the latest.
 pub const LAST_MARKER: usize = 60_000;
 
 fn is_within(n: usize, most: usize) -> bool

@@ -5,7 +5,7 @@ use tape::item::ItemRef;
 use tape::status::Status;
 use tape::transport::Transport;
 
-// A mark, made by a function since the checker wants to see its reference read.
+// A mark, as an item to be written.
 fn a_mark<'a>() -> ItemRef<'a> {
     ItemRef::Mark
 }
