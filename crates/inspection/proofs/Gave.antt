@@ -14,7 +14,8 @@ use Rattle.inspection.specs.Items.{item_line}
 use Rattle.inspection.specs.Account.{NextPut, place_of, item_lines}
 use Rattle.line.specs.declared.line_transport.LineTransport.{LineTransport}
 use Rattle.line.specs.Meaning.{line_tape, sure}
-use Rattle.line.proofs.Facts.{here_count, items_of_here, proper_here}
+use Rattle.line.specs.Sound.{here_count}
+use Rattle.line.proofs.Facts.{items_of_here, proper_here}
 
 next_is : (items : List Item) (n : ℕ) (i : Item) → first (drop n items) ≡ Some i → (n < length items) × (get_or items n mark ≡ i)
 next_is [] zero i e = absurd (let z : ◌≡◌ {A = ℕ} 0 1 = cc in omega arith)

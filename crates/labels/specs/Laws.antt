@@ -20,8 +20,8 @@ GivesBack =
     × (number p.section ≡ s)
     × (number p.count ≡ n))
 
--- The bytes are a lawful label, and reading them gives this kind, and parts that tell this volume,
--- these fields, this section and this count.
+-- The same of one label, by its bytes: they are lawful, and reading them gives this kind, and parts
+-- that tell this volume, these fields, this section and this count.
 pub record ReadsBack (k : LabelKind) (v : List ℕ) (f : Fields) (s n : ℕ) (bs : List ℕ) : Type 0 where
   pub parts : LabelParts
   pub lawful : lawful_label bs ≡ true

@@ -16,6 +16,7 @@ use Rattle.line_text.proofs.Blank.{Last, later_blank, any_counted}
 use Rattle.line_text.proofs.Rows.{all_small, items_in_small}
 use Rattle.line.specs.declared.line_transport.LineTransport.{LineTransport}
 use Rattle.line.specs.Meaning.{line_tape}
+use Rattle.line.specs.Sound.{here_count}
 
 -- the span under the head
 abbrev pub head_span : LineTransport → Span
@@ -29,9 +30,6 @@ last_of x = record { inside = x.ending; behind = x.behind; there = x.there }
 
 pub here_of : (x : LineTransport) → here (line_tape x) ≡ track_of (vec_items x.text) (head_span x)
 here_of x = track_at x.tracks (vec_items x.text) (vec_items x.spans) (laid_of x) x.at x.head.0
-
-pub here_count : (x : LineTransport) → length (here (line_tape x)).items ≡ (head_span x).count
-here_count x = ap (λ (t : Track). length t.items) (here_of x) ∙ length_items_in (head_span x).count (drop (head_span x).start (vec_items x.text))
 
 -- no item at or after the head, by the numbers that the code compares
 pub end_of : (x : LineTransport) → at_end (line_tape x) ≡ (x.item == (head_span x).count && nat_le x.last x.at)

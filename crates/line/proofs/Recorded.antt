@@ -12,7 +12,8 @@ use Rattle.line_text.specs.Facts.{SoundSpan, sound_facts}
 use Rattle.line_text.proofs.Counts.{sound_from, count_after, since_after, sound_after, early_after, marked_after}
 use Rattle.line.specs.declared.line_transport.LineTransport.{LineTransport}
 use Rattle.line.specs.Meaning.{line_tape, line_choice}
-use Rattle.line.proofs.Facts.{head_span, head_items, here_of, here_count, end_of}
+use Rattle.line.specs.Sound.{here_count}
+use Rattle.line.proofs.Facts.{head_span, head_items, here_of, end_of}
 use Rattle.line.proofs.Put.{Fits, added, image_now}
 
 room_behind : (m : Bool) (since : ℕ) (b : Bool) → cond m (ltb since writes_after && b) true ≡ true → m ≡ true → since < writes_after

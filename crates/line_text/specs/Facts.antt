@@ -1,5 +1,6 @@
 -- What the law of every line transport rests on: a sound span's numbers, and how many items a row of lines tells. Assumes nothing.
 use Rattle.std.proofs.Common.{◌≡◌, ℕ, zero, suc, ◌+◌, ◌-◌, ◌<◌, ◌≤◌, Bool, true, false, cond, ◌&&◌, eqb, ltb, leb, List, length, drop, sym, refl, ap, ltb-true, eqb-true, leb-true}
+use borrow.Author.Tests.{clash}
 use Rattle.std.proofs.lemmas.Bool.{and_parts}
 use Rattle.tape.specs.Tape.{most_items, last_marker, writes_after}
 use Rattle.line_text.specs.declared.span.Span.{Span}
@@ -12,17 +13,14 @@ pub record SoundSpan (s : Span) : Type 0 where
   pub unmarked : s.marked ≡ false → (s.count < last_marker) × (s.since ≡ 0)
   pub marked : s.marked ≡ true → (1 ≤ s.count) × (s.since ≤ writes_after) × (s.count + (writes_after - s.since) ≤ most_items)
 
-clash : {A : Type 0} → true ≡ false → A
-clash e = absurd cc
-
 by_marked : (c s : ℕ) (m : Bool) → cond m (leb 1 c && leb s writes_after && leb (c + (writes_after - s)) most_items) (ltb c last_marker && eqb s 0) ≡ true → (m ≡ false → (c < last_marker) × (s ≡ 0)) × (m ≡ true → (1 ≤ c) × (s ≤ writes_after) × (c + (writes_after - s) ≤ most_items))
 by_marked c s true h =
     let p = and_parts (leb 1 c && leb s writes_after) (leb (c + (writes_after - s)) most_items) h in
     let q = and_parts (leb 1 c) (leb s writes_after) p.0 in
-    (λ e. clash e, λ e. (leb-true 1 c q.0, leb-true s writes_after q.1, leb-true (c + (writes_after - s)) most_items p.1))
+    (λ e. absurd (clash (sym e)), λ e. (leb-true 1 c q.0, leb-true s writes_after q.1, leb-true (c + (writes_after - s)) most_items p.1))
 by_marked c s false h =
     let p = and_parts (ltb c last_marker) (eqb s 0) h in
-    (λ e. (ltb-true c last_marker p.0, eqb-true s 0 p.1), λ e. clash (sym e))
+    (λ e. (ltb-true c last_marker p.0, eqb-true s 0 p.1), λ e. absurd (clash e))
 
 pub sound_facts : (s : Span) → sound_span s ≡ true → SoundSpan s
 sound_facts s h =

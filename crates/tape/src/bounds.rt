@@ -2,7 +2,6 @@
 ghost use Rattle.std.specs.Prelude.{◌≡◌, true, ◌&&◌, nat_le};
 ghost use Rattle.tape.specs.Tape.{lawful_size, fresh};
 ghost use Rattle.tape.specs.Sound.{Sound};
-ghost use Rattle.tape.specs.Runs.{StaysSound};
 
 /// The tracks of a volume, at most.
 pub const MOST_TRACKS: usize = 2;
@@ -26,12 +25,10 @@ fn is_within(n: usize, most: usize) -> bool
 }
 
 /// Whether a set may have so many tracks to a volume and so many volumes. A new transport of such a
-/// size is sound, and whatever functions are called on a sound one, and whatever it chooses, it
-/// stays sound.
+/// size is sound.
 pub fn is_size(tracks: usize, volumes: usize) -> bool
     ensures size { result ≡ lawful_size tracks volumes }
     ensures starts { result ≡ true → Sound (fresh tracks volumes) }
-    ensures stays { StaysSound }
 {
     is_within(tracks, MOST_TRACKS) && is_within(volumes, MOST_VOLUMES)
 }

@@ -3,7 +3,8 @@ use Rattle.tape.specs.Items.{mark, kind_of}
 use Rattle.tape.specs.Tape.{fits_in, filled}
 use Rattle.line_text.specs.Lines.{unhexed}
 use Rattle.line_text.proofs.OneLine.{copied_from_line}
-use Rattle.line.proofs.Facts.{head_span, head_items, here_count, items_of_here, line_here, proper_here, small_here}
+use Rattle.line.specs.Sound.{here_count}
+use Rattle.line.proofs.Facts.{head_span, head_items, items_of_here, line_here, proper_here, small_here}
 use Rattle.line.proofs.line_transport.LineTransport.copy_bytes.Goals as goal
 use Rattle.line.proofs.line_transport.LineTransport.copy_bytes.Goals.{After-as_slice}
 

@@ -3,7 +3,8 @@ use Rattle.tape.specs.Items.{mark}
 use Rattle.line_text.specs.Lines.{line_size}
 use Rattle.line_text.proofs.Laid.{one_line_more}
 use Rattle.line_text.specs.Facts.{length_items_in}
-use Rattle.line.proofs.Facts.{head_span, head_items, here_count, items_of_here, line_inside}
+use Rattle.line.specs.Sound.{here_count}
+use Rattle.line.proofs.Facts.{head_span, head_items, items_of_here, line_inside}
 use Rattle.line.proofs.line_transport.LineTransport.pass.Goals as goal
 
 inside : (c : goal.Start) → c.args.self.now.item < (head_span c.args.self.now).count

@@ -9,7 +9,8 @@ use Rattle.tape.proofs.Attempts.{read_failed, read_short, read_done, next_there,
 use Rattle.line_text.proofs.OneLine.{mark_size, block_size, mark_fits}
 use Rattle.line.specs.declared.line_transport.LineTransport.{LineTransport}
 use Rattle.line.specs.Meaning.{line_tape, sure}
-use Rattle.line.proofs.Facts.{here_count, items_of_here, proper_here}
+use Rattle.line.specs.Sound.{here_count}
+use Rattle.line.proofs.Facts.{items_of_here, proper_here}
 use Rattle.line.proofs.line_transport.interface.LineTransportTransport.read.Goals as goal
 
 abbrev items : LineTransport → List Item
