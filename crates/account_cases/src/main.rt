@@ -4,45 +4,38 @@
 use inspection::account::account;
 use std::io::Write;
 
-fn show(rt: &HostRuntime, name: &str, tracks: usize, text: &[u8]) -> anyhow::Result<()> {
-    println!(rt; "{name}")?;
-    let told = account(rt.alloc(), tracks, text)?;
-    rt.stdout().write_all(told.as_slice())?;
-    Ok(())
-}
-
-fn run(rt: &HostRuntime) -> anyhow::Result<()> {
-    show(rt, "nothing at all", 2, b"")?;
-    show(
-        rt,
+// The name of a case, the tracks of its volumes, and its text.
+const CASES: [(&str, usize, &[u8]); 6] = [
+    ("nothing at all", 2, b""),
+    (
         "one mark, one track",
         1,
         b"vol=01 track=1 item=00001 kind=mark\n",
-    )?;
-    show(
-        rt,
+    ),
+    (
         "behind a blank track",
         2,
         b"vol=01 track=2 item=00001 kind=block size=001 hex=41\n",
-    )?;
-    show(
-        rt,
-        "no line feed",
-        2,
-        b"vol=01 track=1 item=00001 kind=mark",
-    )?;
-    show(
-        rt,
+    ),
+    ("no line feed", 2, b"vol=01 track=1 item=00001 kind=mark"),
+    (
         "second item first",
         2,
         b"vol=01 track=1 item=00002 kind=mark\n",
-    )?;
-    show(
-        rt,
+    ),
+    (
         "three tracks to a volume",
         3,
         b"vol=01 track=1 item=00001 kind=mark\n",
-    )?;
+    ),
+];
+
+fn run(rt: &HostRuntime) -> anyhow::Result<()> {
+    for (name, tracks, text) in CASES {
+        println!(rt; "{name}")?;
+        let told = account(rt.alloc(), tracks, text)?;
+        rt.stdout().write_all(told.as_slice())?;
+    }
     Ok(())
 }
 

@@ -8,20 +8,20 @@ use inspection::account::account;
 use std::env;
 use std::io::{Read, Write};
 
-// The tracks of a volume that an argument asks for; others leave it as it was.
-fn tracks_after(argument: &str, tracks: usize) -> usize {
+// The tracks of a volume that an argument asks for.
+fn tracks_asked(argument: &str) -> Option<usize> {
     match argument {
-        "tracks=1" => 1,
-        "tracks=2" => 2,
-        _ => tracks,
+        "tracks=1" => Some(1),
+        "tracks=2" => Some(2),
+        _ => None,
     }
 }
 
 fn run(rt: &HostRuntime) -> anyhow::Result<()> {
-    let mut tracks = 2;
-    for argument in env::args(rt)? {
-        tracks = tracks_after(argument.as_str(), tracks);
-    }
+    let tracks = env::args(rt)?
+        .filter_map(|argument| tracks_asked(argument.as_str()))
+        .last()
+        .unwrap_or(2);
     let mut text = Vec::new(rt.alloc());
     rt.stdin().read_to_end(&mut text)?;
     let told = account(rt.alloc(), tracks, text.as_slice())?;

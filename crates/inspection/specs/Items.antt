@@ -1,55 +1,34 @@
 -- The line of an item. Assumes nothing.
-use Rattle.std.specs.Prelude.{ℕ, ◌+◌, ◌/◌, ◌%◌, cond, ◌&&◌, List, [], ◌∷◌, ◌++◌, length, take, Ok, Err, codes, Result, nat_le, nat_lt}
+use Rattle.std.specs.Prelude.{ℕ, cond, ◌&&◌, List, ◌∷◌, ◌++◌, length, take, map, Ok, Err, codes, Result, nat_le}
+use Rattle.std.specs.List.{flat_map}
+use Rattle.figures.specs.Hex.{hex_pair}
 use Rattle.tape.specs.declared.place.Place.{Place}
 use Rattle.tape.specs.declared.refusal.Reason.{Reason}
 use Rattle.tape.specs.Items.{Item, mark, block}
 use Rattle.labels.specs.declared.kind.LabelKind.{LabelKind}
-use Rattle.labels.specs.declared.kind.LabelKind.TheVariants.{Hdr, Etr, Eov, Eof}
+use Rattle.labels.specs.Kinds.{kind_name}
 use Rattle.labels.specs.Layout.{LabelParts}
 use Rattle.labels.specs.Reading.{reading}
 use Rattle.inspection.specs.Pieces.{numbered, named}
 use Rattle.inspection.specs.Lines.{line_end, place_text}
 
-abbrev pub kind_name : LabelKind → List ℕ
-kind_name Hdr = codes "HDR"
-kind_name Etr = codes "ETR"
-kind_name Eov = codes "EOV"
-kind_name Eof = codes "EOF"
-
---  HDR volume=|VOL1| file=|KNEAD 01| section=01
-abbrev pub front_text : LabelKind → LabelParts → List ℕ
-front_text k p =
-    named (codes " ") (kind_name k)
-    ++ (named (codes " volume=|") p.volume ++ (named (codes "| file=|") p.file ++ named (codes "| section=") p.section))
-
---  created=73345 retention=030 count=0000 code=1 user=|USER|
-abbrev pub back_text : LabelParts → List ℕ
-back_text p =
-    named (codes " created=") p.created
+--  volume=|VOL1| file=|KNEAD 01| section=01 created=73345 retention=030 count=0000 code=1 user=|USER|
+abbrev pub parts_text : LabelParts → List ℕ
+parts_text p =
+    named (codes " volume=|") p.volume
+    ++ (named (codes "| file=|") p.file
+    ++ (named (codes "| section=") p.section
+    ++ (named (codes " created=") p.created
     ++ (named (codes " retention=") p.retention
-    ++ (named (codes " count=") p.count ++ (named (codes " code=") p.code ++ (named (codes " user=|") p.user ++ (124 ∷ line_end)))))
+    ++ (named (codes " count=") p.count ++ (named (codes " code=") p.code ++ (named (codes " user=|") p.user ++ (124 ∷ line_end))))))))
 
+--  HDR, and the parts
 abbrev pub label_text : LabelKind × LabelParts → List ℕ
-label_text l = front_text l.0 l.1 ++ back_text l.1
-
--- a hexadecimal digit, a capital past 9
-abbrev pub hex_code : ℕ → ℕ
-hex_code n = cond (nat_lt (n % 16) 10) (48 + n % 16) (55 + n % 16)
-
-abbrev pub hex_pair : ℕ → List ℕ
-hex_pair b = hex_code (b / 16) ∷ hex_code b ∷ []
+label_text l = named (codes " ") (kind_name l.0) ++ parts_text l.1
 
 -- a character that can be seen, and a full stop for any other
 abbrev pub seen_code : ℕ → ℕ
 seen_code b = cond (nat_le 32 b && nat_le b 126) b 46
-
-abbrev pub character : ℕ → List ℕ
-character b = seen_code b ∷ []
-
--- each byte as the text that stands for it
-abbrev pub each : (ℕ → List ℕ) → List ℕ → List ℕ
-each f [] = []
-each f (b ∷ bs) = f b ++ each f bs
 
 -- the bytes of a block that its line shows
 abbrev pub first_bytes : List ℕ → List ℕ
@@ -57,7 +36,7 @@ first_bytes bs = take 16 bs
 
 --  data hex=414243 text=|ABC|
 abbrev pub data_text : List ℕ → List ℕ
-data_text bs = codes " data hex=" ++ (each hex_pair (first_bytes bs) ++ (codes " text=|" ++ (each character (first_bytes bs) ++ (124 ∷ line_end))))
+data_text bs = codes " data hex=" ++ (flat_map hex_pair (first_bytes bs) ++ (codes " text=|" ++ (map seen_code (first_bytes bs) ++ (124 ∷ line_end))))
 
 -- a lawful label is told as such, and any other block is data
 abbrev pub block_text : Result (LabelKind × LabelParts) Reason → List ℕ → List ℕ

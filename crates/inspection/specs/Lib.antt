@@ -4,3 +4,4 @@ pub mod Lines
 pub mod Refused
 pub mod Items
 pub mod Account
+pub mod Opened

@@ -1,17 +1,9 @@
 -- The pieces of a line: numbers of a fixed width, and text behind a name. Assumes nothing.
-use Rattle.std.specs.Prelude.{ℕ, zero, suc, ◌+◌, ◌/◌, ◌%◌, List, [], ◌∷◌, ◌++◌}
-
--- the character of the last decimal digit
-abbrev pub digit_code : ℕ → ℕ
-digit_code n = 48 + n % 10
-
--- the last w decimal digits, with zeros in front
-abbrev pub decimal : ℕ → ℕ → List ℕ
-decimal zero n = []
-decimal (suc w) n = decimal w (n / 10) ++ digit_code n ∷ []
-
-unfoldable pub numbered : List ℕ → ℕ → ℕ → List ℕ
-numbered name w n = name ++ decimal w n
+use Rattle.std.specs.Prelude.{ℕ, List, ◌++◌}
+use Rattle.figures.specs.Decimal.{decimal}
 
 unfoldable pub named : List ℕ → List ℕ → List ℕ
 named name value = name ++ value
+
+abbrev pub numbered : List ℕ → ℕ → ℕ → List ℕ
+numbered name w n = named name (decimal w n)

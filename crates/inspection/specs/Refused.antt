@@ -2,17 +2,10 @@
 use Rattle.std.specs.Prelude.{ℕ, List, ◌++◌, codes}
 use Rattle.tape.specs.declared.refusal.Reason.{Reason}
 use Rattle.tape.specs.declared.refusal.Reason.TheVariants.{BlockSize, Unlawful, ShortBuffer, Missing, MarkOutOfPlace, BlockOutOfPlace, BadLabel, LabelDisagrees, CountDisagrees, DoesNotFit, EmptyFile, NoRoomForFile, SectionFull, NoVolume, Ended, TransportFailed, VolumeAwaited, CatalogueFull}
-use Rattle.tape.specs.declared.refusal.Layer.{Layer}
-use Rattle.tape.specs.declared.refusal.Layer.TheVariants.{Transport, Label, Structure}
 use Rattle.tape.specs.declared.refusal.Refusal.{Refusal}
-use Rattle.tape.specs.Refusals.{reason_number, reason_layer}
+use Rattle.tape.specs.Refusals.{reason_number, reason_layer, layer_name}
 use Rattle.inspection.specs.Pieces.{numbered, named}
 use Rattle.inspection.specs.Lines.{line_end, place_text}
-
-abbrev pub layer_name : Layer → List ℕ
-layer_name Transport = codes "transport"
-layer_name Label = codes "label"
-layer_name Structure = codes "structure"
 
 -- what to look at
 abbrev pub reason_words : Reason → List ℕ

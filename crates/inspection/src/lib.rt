@@ -7,6 +7,6 @@ mod item;
 mod label;
 mod lines;
 mod refused;
-mod text;
+mod told;
 mod totals;
 mod walk;

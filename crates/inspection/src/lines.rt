@@ -1,76 +1,98 @@
 //! The lines of the settings and of the totals, and the place that a line begins with.
-ghost use Rattle.std.specs.Prelude.{◌≡◌, ◌++◌, OnOk};
+ghost use Rattle.std.specs.Prelude.{◌<◌, ◌^◌};
 ghost use Rattle.inspection.specs.Lines.{settings_line, place_text, counts_text, track_line, total_line};
 
-use crate::text::{put, put_number};
-use crate::totals::Totals;
+use crate::told::{Named, Told};
+use crate::totals::{Sums, Totals};
+use figures::decimal::decimal;
 use std::alloc::AllocError;
 use tape::place::Place;
 
-/// Appends the line of the settings: the tracks of a volume, the volumes that the text has, and its
-/// bytes.
-pub(crate) fn put_settings(
-    out: &mut Vec<u8>,
-    tracks: usize,
-    volumes: usize,
-    bytes: usize,
-) -> Result<(), AllocError>
-    ensures { OnOk result (out.new.items ≡ out.old.items ++ settings_line tracks volumes bytes) }
-{
-    put_number(out, b"settings tracks=", 1, tracks)?;
-    put_number(out, b" volumes=", 2, volumes)?;
-    put_number(out, b" text=", 10, bytes)?;
-    put(out, b"\n")?;
-    Ok(())
+/// The line of the settings: the tracks of a volume, the volumes that the text has, and its bytes.
+#[derive(Clone, Copy)]
+pub(crate) struct SettingsLine {
+    pub(crate) tracks: usize,
+    pub(crate) volumes: usize,
+    pub(crate) bytes: usize,
 }
 
-/// Appends the volume, the track and the item.
-pub(crate) fn put_place(out: &mut Vec<u8>, place: Place) -> Result<(), AllocError>
-    ensures { OnOk result (out.new.items ≡ out.old.items ++ place_text place) }
-{
-    put_number(out, b"vol=", 2, place.volume)?;
-    put_number(out, b" track=", 1, place.track)?;
-    put_number(out, b" item=", 5, place.item)?;
-    Ok(())
+impl Told for SettingsLine {
+    ghost text = { λ s. settings_line s.tracks s.volumes s.bytes };
+
+    fn tell(&self, out: &mut Vec<u8>) -> Result<(), AllocError> {
+        Named(b"settings tracks=", &decimal::<1>(self.tracks)).tell(out)?;
+        Named(b" volumes=", &decimal::<2>(self.volumes)).tell(out)?;
+        Named(b" text=", &decimal::<10>(self.bytes)).tell(out)?;
+        b"\n".tell(out)
+    }
 }
 
-/// Appends the totals: the counts in one width, and the bytes in a wider one.
-fn put_counts(
-    out: &mut Vec<u8>,
+impl Told for Place {
+    ghost text = { place_text };
+
+    fn tell(&self, out: &mut Vec<u8>) -> Result<(), AllocError> {
+        Named(b"vol=", &decimal::<2>(self.volume)).tell(out)?;
+        Named(b" track=", &decimal::<1>(self.track)).tell(out)?;
+        Named(b" item=", &decimal::<5>(self.item)).tell(out)
+    }
+}
+
+// Totals to a line's end: the counts in one width, and the bytes in a wider one. Digits of either
+// width fit in memory.
+#[derive(Clone, Copy)]
+struct Counts<const W: usize, const WIDE: usize> {
     totals: Totals,
-    width: usize,
-    wide: usize,
-) -> Result<(), AllocError>
-    ensures { OnOk result (out.new.items ≡ out.old.items ++ counts_text totals width wide) }
-{
-    put_number(out, b" items=", width, totals.items)?;
-    put_number(out, b" blocks=", width, totals.blocks)?;
-    put_number(out, b" marks=", width, totals.marks)?;
-    put_number(out, b" bytes=", wide, totals.bytes)?;
-    put(out, b"\n")?;
-    Ok(())
+    ghost narrow: { W < 2 ^ 63 },
+    ghost wide: { WIDE < 2 ^ 63 },
 }
 
-/// Appends the totals of the track of the volume.
-pub(crate) fn put_track(
-    out: &mut Vec<u8>,
-    volume: usize,
-    track: usize,
-    totals: Totals,
-) -> Result<(), AllocError>
-    ensures { OnOk result (out.new.items ≡ out.old.items ++ track_line volume track totals) }
-{
-    put_number(out, b"track vol=", 2, volume)?;
-    put_number(out, b" track=", 1, track)?;
-    put_counts(out, totals, 5, 8)?;
-    Ok(())
+impl<const W: usize, const WIDE: usize> Told for Counts<W, WIDE> {
+    ghost text = { λ s. counts_text s.totals W WIDE };
+
+    fn tell(&self, out: &mut Vec<u8>) -> Result<(), AllocError> {
+        let Totals {
+            items,
+            blocks,
+            marks,
+            bytes,
+        } = self.totals;
+        Named(b" items=", &decimal::<W>(items)).tell(out)?;
+        Named(b" blocks=", &decimal::<W>(blocks)).tell(out)?;
+        Named(b" marks=", &decimal::<W>(marks)).tell(out)?;
+        Named(b" bytes=", &decimal::<WIDE>(bytes)).tell(out)?;
+        b"\n".tell(out)
+    }
 }
 
-/// Appends the totals of all of the set, and how many tracks have items.
-pub(crate) fn put_total(out: &mut Vec<u8>, tracks: usize, totals: Totals) -> Result<(), AllocError>
-    ensures { OnOk result (out.new.items ≡ out.old.items ++ total_line tracks totals) }
-{
-    put_number(out, b"total tracks=", 2, tracks)?;
-    put_counts(out, totals, 7, 10)?;
-    Ok(())
+/// The line of a track of a volume: its totals.
+#[derive(Clone, Copy)]
+pub(crate) struct TrackLine {
+    pub(crate) volume: usize,
+    pub(crate) track: usize,
+    pub(crate) totals: Totals,
+}
+
+impl Told for TrackLine {
+    ghost text = { λ s. track_line s.volume s.track s.totals };
+
+    fn tell(&self, out: &mut Vec<u8>) -> Result<(), AllocError> {
+        Named(b"track vol=", &decimal::<2>(self.volume)).tell(out)?;
+        Named(b" track=", &decimal::<1>(self.track)).tell(out)?;
+        Counts::<5, 8> {
+            totals: self.totals,
+        }
+        .tell(out)
+    }
+}
+
+impl Told for Sums {
+    ghost text = { λ s. total_line s.tracks s.totals };
+
+    fn tell(&self, out: &mut Vec<u8>) -> Result<(), AllocError> {
+        Named(b"total tracks=", &decimal::<2>(self.tracks)).tell(out)?;
+        Counts::<7, 10> {
+            totals: self.totals,
+        }
+        .tell(out)
+    }
 }

@@ -1,23 +1,13 @@
 //! The lines of a refusal: its number, its place and its layer, and what to look at.
-ghost use Rattle.std.specs.Prelude.{◌≡◌, ◌++◌, OnOk};
-ghost use Rattle.inspection.specs.Refused.{layer_name, reason_words, refusal_lines};
+ghost use Rattle.std.specs.Prelude.{◌≡◌};
+ghost use Rattle.inspection.specs.Refused.{reason_words, refusal_lines};
 
-use crate::lines::put_place;
-use crate::text::{put, put_named, put_number};
+use crate::told::{Named, Told};
+use figures::decimal::decimal;
 use std::alloc::AllocError;
-use tape::refusal::{Layer, Reason, Refusal};
+use tape::refusal::{Reason, Refusal};
 
-fn layer_name(layer: Layer) -> &'static [u8]
-    ensures { result.now ≡ layer_name layer }
-{
-    match layer {
-        Layer::Transport => b"transport",
-        Layer::Label => b"label",
-        Layer::Structure => b"structure",
-    }
-}
-
-/// What to look at where a call was refused for the reason.
+// What to look at where a call was refused for the reason.
 fn words(reason: Reason) -> &'static [u8]
     ensures { result.now ≡ reason_words reason }
 {
@@ -49,15 +39,19 @@ fn words(reason: Reason) -> &'static [u8]
     }
 }
 
-/// Appends the refusal's line, and a line of words that help.
-pub(crate) fn put_refusal(out: &mut Vec<u8>, refusal: Refusal) -> Result<(), AllocError>
-    ensures { OnOk result (out.new.items ≡ out.old.items ++ refusal_lines refusal) }
-{
-    put_number(out, b"refused=", 2, usize::from(refusal.reason.number()))?;
-    put(out, b" ")?;
-    put_place(out, refusal.place)?;
-    put_named(out, b" layer=", layer_name(refusal.reason.layer()))?;
-    put_named(out, b"\n", words(refusal.reason))?;
-    put(out, b"\n")?;
-    Ok(())
+impl Told for Refusal {
+    ghost text = { refusal_lines };
+
+    fn tell(&self, out: &mut Vec<u8>) -> Result<(), AllocError> {
+        Named(
+            b"refused=",
+            &decimal::<2>(usize::from(self.reason.number())),
+        )
+        .tell(out)?;
+        b" ".tell(out)?;
+        self.place.tell(out)?;
+        Named(b" layer=", self.reason.layer().name().as_bytes()).tell(out)?;
+        Named(b"\n", words(self.reason)).tell(out)?;
+        b"\n".tell(out)
+    }
 }

@@ -1,12 +1,12 @@
 //! What a track, or a whole set, amounts to.
-ghost use Rattle.std.specs.Prelude.{◌≡◌};
-ghost use Rattle.inspection.specs.Amounts.{no_totals, counted, together};
+ghost use Rattle.std.specs.Prelude.{◌≡◌, if◌then◌else◌, nat_eq};
+ghost use Rattle.inspection.specs.Amounts.{no_totals, sum, counted, together};
 
 use tape::item::Kind;
 
 /// How many items, of them blocks and marks, and the bytes of the blocks. A sum stops at the
 /// greatest number, which no tape comes near.
-#[derive(Clone, Copy)]
+#[derive(Clone, Copy, Default)]
 pub struct Totals {
     pub items: usize,
     pub blocks: usize,
@@ -15,34 +15,22 @@ pub struct Totals {
 }
 
 impl Totals {
-    /// The totals of no items.
-    pub(crate) fn none() -> Totals
-        ensures { result ≡ no_totals }
-    {
-        Totals {
-            items: 0,
-            blocks: 0,
-            marks: 0,
-            bytes: 0,
-        }
-    }
-
     /// The totals with one item more.
     pub(crate) fn with(self, kind: Kind) -> Totals
         ensures { result ≡ counted self kind }
     {
+        let items = self.items.saturating_add(1);
         match kind {
             Kind::Mark => Totals {
-                items: self.items.saturating_add(1),
-                blocks: self.blocks,
+                items,
                 marks: self.marks.saturating_add(1),
-                bytes: self.bytes,
+                ..self
             },
             Kind::Block(length) => Totals {
-                items: self.items.saturating_add(1),
+                items,
                 blocks: self.blocks.saturating_add(1),
-                marks: self.marks,
                 bytes: self.bytes.saturating_add(length),
+                ..self
             },
         }
     }
@@ -56,6 +44,31 @@ impl Totals {
             blocks: self.blocks.saturating_add(other.blocks),
             marks: self.marks.saturating_add(other.marks),
             bytes: self.bytes.saturating_add(other.bytes),
+        }
+    }
+}
+
+/// The totals of tracks, and how many of them have items.
+#[derive(Clone, Copy, Default)]
+pub(crate) struct Sums {
+    pub(crate) totals: Totals,
+    pub(crate) tracks: usize,
+}
+
+impl Sums {
+    /// The sums with the totals of one track more.
+    pub(crate) fn with_track(self, track: Totals) -> Sums
+        ensures totals { result.totals ≡ together self.totals track }
+        ensures tracks { result.tracks ≡ (if nat_eq track.items 0 then self.tracks else sum self.tracks 1) }
+    {
+        let tracks = if track.items == 0 {
+            self.tracks
+        } else {
+            self.tracks.saturating_add(1)
+        };
+        Sums {
+            totals: self.totals.plus(track),
+            tracks,
         }
     }
 }

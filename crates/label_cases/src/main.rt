@@ -7,24 +7,14 @@
 
 ghost use Rattle.std.specs.Prelude.{◌+◌, ◌≤◌};
 
+use labels::contents::Contents;
 use labels::fields::Fields;
 use labels::kind::LabelKind;
 use labels::label::Label;
-use labels::read::LabelRef;
 use labels::read::parse::parse;
 use std::io;
 use std::str::from_utf8;
 use tape::refusal::{Layer, Reason};
-
-/// What a label is to be made of.
-#[derive(Clone, Copy)]
-struct Given {
-    kind: LabelKind,
-    volume: [u8; 4],
-    fields: Fields,
-    section: u8,
-    count: u16,
-}
 
 /// The N characters that stand at the place.
 fn part<const N: usize>(text: &[u8; 30], place: usize) -> [u8; N]
@@ -46,24 +36,14 @@ fn kind_named(word: &str) -> Option<LabelKind> {
 }
 
 /// What the words ask for, where each has its length and they are parted by bars.
-fn asked(words: &str) -> Option<Given> {
-    let Some((kind, words)) = words.split_once('|') else {
-        return None;
-    };
-    let Some((section, words)) = words.split_once('|') else {
-        return None;
-    };
-    let Some((count, words)) = words.split_once('|') else {
-        return None;
-    };
-    let (Some(kind), Ok(section), Ok(count), Ok(text)) = (
-        kind_named(kind),
-        section.parse(),
-        count.parse(),
-        <[u8; 30]>::try_from(words.as_bytes()),
-    ) else {
-        return None;
-    };
+fn asked(words: &str) -> Option<Contents> {
+    let (kind, words) = words.split_once('|')?;
+    let (section, words) = words.split_once('|')?;
+    let (count, words) = words.split_once('|')?;
+    let kind = kind_named(kind)?;
+    let section = section.parse().ok()?;
+    let count = count.parse().ok()?;
+    let text = <[u8; 30]>::try_from(words.as_bytes()).ok()?;
     let bars = [text[4], text[13], text[19], text[23], text[25]];
     if bars != *b"|||||" {
         return None;
@@ -75,7 +55,7 @@ fn asked(words: &str) -> Option<Given> {
         code: text[24],
         user: part(&text, 26),
     };
-    Some(Given {
+    Some(Contents {
         kind,
         volume: part(&text, 0),
         fields,
@@ -84,29 +64,9 @@ fn asked(words: &str) -> Option<Given> {
     })
 }
 
-/// What a label that was read would be made of.
-fn told(read: LabelRef<'_>) -> Given {
-    let parts = read.parts();
-    Given {
-        kind: read.kind(),
-        volume: parts.volume(),
-        fields: parts.fields(),
-        section: parts.section(),
-        count: parts.count(),
-    }
-}
-
 /// Whether reading the label gives back what it was made of.
-fn reads_back(label: &Label, given: Given) -> bool {
-    let Ok(read) = parse(label.as_bytes()) else {
-        return false;
-    };
-    let told = told(read);
-    told.kind == given.kind
-        && told.volume == given.volume
-        && told.fields == given.fields
-        && told.section == given.section
-        && told.count == given.count
+fn reads_back(label: &Label, contents: Contents) -> bool {
+    parse(label.as_bytes()).is_ok_and(|read| read.contents() == contents)
 }
 
 fn show_refusal(rt: &HostRuntime, reason: Reason) -> io::Result<()> {
@@ -124,17 +84,11 @@ fn text(bytes: &[u8]) -> &str {
     from_utf8(bytes).unwrap_or("no text")
 }
 
-fn make(rt: &HostRuntime, given: Given) -> io::Result<()> {
-    match Label::new(
-        given.kind,
-        given.volume,
-        given.fields,
-        given.section,
-        given.count,
-    ) {
+fn make(rt: &HostRuntime, contents: Contents) -> io::Result<()> {
+    match Label::new(contents) {
         Ok(label) => {
             let bytes = text(label.as_bytes());
-            let back = if reads_back(&label, given) {
+            let back = if reads_back(&label, contents) {
                 "yes"
             } else {
                 "no"
@@ -145,14 +99,14 @@ fn make(rt: &HostRuntime, given: Given) -> io::Result<()> {
     }
 }
 
-fn tell(rt: &HostRuntime, given: Given) -> io::Result<()> {
-    let Given {
+fn tell(rt: &HostRuntime, contents: Contents) -> io::Result<()> {
+    let Contents {
         kind,
         volume,
         fields,
         section,
         count,
-    } = given;
+    } = contents;
     print!(rt; "{kind:?}|{section}|{count}")?;
     let code = [fields.code];
     let texts: [&[u8]; 6] = [
@@ -173,14 +127,12 @@ fn tell(rt: &HostRuntime, given: Given) -> io::Result<()> {
 fn show(rt: &HostRuntime, line: &str) -> io::Result<()> {
     if let Some(block) = line.strip_prefix("read ") {
         return match parse(block.as_bytes()) {
-            Ok(read) => tell(rt, told(read)),
+            Ok(read) => tell(rt, read.contents()),
             Err(reason) => show_refusal(rt, reason),
         };
     }
-    if let Some(words) = line.strip_prefix("make ") {
-        if let Some(given) = asked(words) {
-            return make(rt, given);
-        }
+    if let Some(contents) = line.strip_prefix("make ").and_then(asked) {
+        return make(rt, contents);
     }
     println!(rt; "no such case")
 }

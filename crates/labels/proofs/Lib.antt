@@ -1,6 +1,5 @@
-pub mod Steps
 pub mod Bounds
+pub mod Decimals
 pub mod Found
 pub mod Behind
 pub mod Made
-pub mod Agree

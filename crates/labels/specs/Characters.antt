@@ -1,5 +1,6 @@
 -- The characters of a label's fields, the numbers they write, and the date rule. Assumes nothing.
-use Rattle.std.specs.Prelude.{ℕ, ◌+◌, ◌-◌, ◌*◌, ◌/◌, ◌%◌, Bool, true, cond, not, ◌&&◌, ◌||◌, List, [], ◌∷◌, length, take, drop, ◌==◌, nat_le}
+use Rattle.std.specs.Prelude.{ℕ, ◌+◌, ◌-◌, ◌*◌, Bool, cond, not, ◌&&◌, ◌||◌, List, [], ◌∷◌, length, take, drop, ◌==◌, nat_le}
+use Rattle.std.specs.List.{list_all}
 use Rattle.labels.specs.declared.characters.CharSet.{CharSet}
 use Rattle.labels.specs.declared.characters.CharSet.TheVariants.{Text, Digits}
 
@@ -15,10 +16,6 @@ abbrev pub in_set : CharSet → ℕ → Bool
 in_set Text b = a_character b
 in_set Digits b = n_character b
 
-abbrev pub all_in : CharSet → List ℕ → Bool
-all_in s [] = true
-all_in s (b ∷ bs) = in_set s b && all_in s bs
-
 -- the value of a digit; any other character counts for nothing
 abbrev pub digit : ℕ → ℕ
 digit b = cond (n_character b) (b - 48) 0
@@ -31,16 +28,9 @@ number_after n (b ∷ bs) = number_after (n * 10 + digit b) bs
 abbrev pub number : List ℕ → ℕ
 number bs = number_after 0 bs
 
--- the digits that write a number below 100, and one below 10,000
-abbrev pub two_digits : ℕ → List ℕ
-two_digits n = (48 + n / 10) ∷ (48 + n % 10) ∷ []
-
-abbrev pub four_digits : ℕ → List ℕ
-four_digits n = (48 + n / 1000) ∷ (48 + n / 100 % 10) ∷ (48 + n / 10 % 10) ∷ (48 + n % 10) ∷ []
-
 -- a part of so many characters of the set
 abbrev pub is_part : List ℕ → ℕ → CharSet → Bool
-is_part bs n s = length bs == n && all_in s bs
+is_part bs n s = length bs == n && list_all (in_set s) bs
 
 -- a date: two digits of a year, and three of a day
 abbrev pub year : List ℕ → ℕ

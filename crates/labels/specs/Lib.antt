@@ -2,6 +2,7 @@ pub mod Characters
 pub mod Kinds
 pub mod Layout
 pub mod Reading
-pub mod Given
+pub mod Fields
+pub mod Contents
 pub mod Made
 pub mod Laws

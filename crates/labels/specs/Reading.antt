@@ -3,12 +3,14 @@ use Rattle.std.specs.Prelude.{ℕ, cond, List, length, drop, Some, None, Ok, Err
 use Rattle.std.specs.Option.{unwrap_or}
 use Rattle.tape.specs.declared.refusal.Reason.{Reason}
 use Rattle.tape.specs.declared.refusal.Reason.TheVariants.{BadLabel}
+use Rattle.labels.specs.declared.contents.Contents.{Contents}
 use Rattle.labels.specs.declared.fields.Fields.{Fields}
 use Rattle.labels.specs.declared.kind.LabelKind.{LabelKind}
 use Rattle.labels.specs.declared.kind.LabelKind.TheVariants.{Hdr, Etr, Eov, Eof}
 use Rattle.labels.specs.declared.parts.Parts.{Parts}
 use Rattle.labels.specs.declared.read.LabelRef.{LabelRef}
 use Rattle.labels.specs.declared.read.LabelRef.TheVariants as read
+use Rattle.labels.specs.Characters.{number}
 use Rattle.labels.specs.Kinds.{kind_from}
 use Rattle.labels.specs.Layout.{LabelParts, parts_of, lawful_label}
 
@@ -29,6 +31,16 @@ held p = record {
 abbrev pub fields_of : LabelParts → Fields
 fields_of p = record { file = p.file; created = p.created; retention = p.retention; code = slice_index p.code 0; user = p.user }
 
+-- what a label of this kind with these parts says
+abbrev pub contents_of : LabelKind × LabelParts → Contents
+contents_of l = record {
+  kind = l.0;
+  volume = l.1.volume;
+  fields = fields_of l.1;
+  section = number l.1.section;
+  count = number l.1.count;
+}
+
 -- what a label that was read tells
 abbrev pub told_by : LabelRef → LabelKind × LabelParts
 told_by (read.Hdr p) = (Hdr, held p)
@@ -39,10 +51,6 @@ told_by (read.Eof p) = (Eof, held p)
 abbrev pub told : Result LabelRef Reason → Result (LabelKind × LabelParts) Reason
 told (Ok l) = Ok (told_by l)
 told (Err e) = Err e
-
-abbrev pub told_parts : Option Parts → Option LabelParts
-told_parts (Some p) = Some (held p)
-told_parts None = None
 
 -- the parts of the bytes behind the kind, where there are as many as in a label
 abbrev pub found_parts : List ℕ → Option LabelParts

@@ -1,6 +1,7 @@
 //! The characters of a label's fields, the numbers they write, and the date rule.
 ghost use Rattle.std.specs.Prelude.{◌≡◌, ◌≤◌, length};
-ghost use Rattle.labels.specs.Characters.{a_character, n_character, in_set, all_in, is_part, digit, number, lawful_date};
+ghost use Rattle.std.specs.List.{list_all};
+ghost use Rattle.labels.specs.Characters.{a_character, n_character, in_set, is_part, digit, number, lawful_date};
 
 /// The two sets of characters that fields are made of: a characters, and n characters.
 #[derive(Clone, Copy)]
@@ -13,14 +14,14 @@ pub enum CharSet {
 pub(crate) fn is_a_character(b: u8) -> bool
     ensures { result ≡ a_character b }
 {
-    32 <= b && b <= 90 && b != 35 && b != 36 && b != 64
+    matches!(b, b' '..=b'Z') && !matches!(b, b'#' | b'$' | b'@')
 }
 
 /// Whether the byte is an n character: a digit.
 pub(crate) fn is_n_character(b: u8) -> bool
     ensures { result ≡ n_character b }
 {
-    48 <= b && b <= 57
+    b.is_ascii_digit()
 }
 
 impl CharSet {
@@ -36,14 +37,9 @@ impl CharSet {
 
     /// Whether the set has every byte of the part.
     pub(crate) fn has_all(self, part: &[u8]) -> bool
-        ensures { result ≡ all_in self part.now }
+        ensures { result ≡ list_all (in_set self) part.now }
     {
-        for b in part {
-            if !self.has(*b) {
-                return false;
-            }
-        }
-        true
+        part.iter().all(|b| self.has(*b))
     }
 }
 
@@ -51,7 +47,7 @@ impl CharSet {
 fn digit(b: u8) -> u8
     ensures { result ≡ digit b }
 {
-    if is_n_character(b) { b - 48 } else { 0 }
+    if is_n_character(b) { b - b'0' } else { 0 }
 }
 
 /// The number that up to four digits write.
@@ -82,5 +78,5 @@ pub(crate) fn is_date(date: &[u8]) -> bool
     }
     let year = number(&date[0..2]);
     let day = number(&date[2..5]);
-    (year == 0 && day == 0) || (1 <= day && day <= 366)
+    (year == 0 && day == 0) || matches!(day, 1..=366)
 }

@@ -1,14 +1,11 @@
 //! The fields that a file is begun with.
 ghost use Rattle.std.specs.Prelude.{◌≡◌, Decides};
-ghost use Rattle.std.specs.Str.{bytes_eq};
-ghost use Rattle.labels.specs.Given.{lawful_fields, same_fields};
-ghost use Rattle.std.specs.Cmp.Rules.{comparing};
-ghost use Rattle.std.proofs.Common.{rules};
+ghost use Rattle.labels.specs.Fields.{lawful_fields, same_fields};
 
 use crate::characters::{CharSet, is_date, is_n_character, is_part};
 
 /// The header fields of a file, as the characters of its labels.
-#[derive(Clone, Copy, Eq, Debug)]
+#[derive(Clone, Copy, PartialEq, Eq, Debug)]
 pub struct Fields {
     /// the file identifier: a characters
     pub file: [u8; 8],
@@ -20,27 +17,6 @@ pub struct Fields {
     pub code: u8,
     /// for the user: a characters
     pub user: [u8; 4],
-}
-
-impl PartialEq for Fields {
-    ghost eq = { same_fields };
-
-    ghost laws = { Prim.search (comparing, rules) };
-
-    #[tactic(auto, using(crate::proofs::Agree::same_fields_decides))]
-    fn eq(&self, other: &Fields) -> bool
-        ensures same { result ≡ same_fields self.now other.now }
-        ensures equal { Decides result (self.now ≡ other.now) }
-    {
-        self.agrees(other)
-    }
-}
-
-/// Whether the parts have the same bytes.
-fn are_same(a: &[u8], b: &[u8]) -> bool
-    ensures { result ≡ bytes_eq a.now b.now }
-{
-    a == b
 }
 
 impl Fields {
@@ -55,14 +31,11 @@ impl Fields {
             && is_part(&self.user, 4, CharSet::Text)
     }
 
-    /// Whether each field has the same characters.
-    pub(crate) fn agrees(&self, other: &Fields) -> bool
-        ensures { result ≡ same_fields self.now other.now }
+    /// Whether each field has the same characters, which is what `==` decides.
+    pub fn agrees(&self, other: &Fields) -> bool
+        ensures same { result ≡ same_fields self.now other.now }
+        ensures equal { Decides result (self.now ≡ other.now) }
     {
-        are_same(&self.file, &other.file)
-            && are_same(&self.created, &other.created)
-            && are_same(&self.retention, &other.retention)
-            && self.code == other.code
-            && are_same(&self.user, &other.user)
+        self == other
     }
 }

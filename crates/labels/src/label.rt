@@ -1,12 +1,23 @@
 //! A label made by value.
-ghost use Rattle.std.specs.Prelude.{◌≡◌, true};
+ghost use Rattle.std.specs.Prelude.{◌≡◌, ℕ, true, List};
 ghost use Rattle.labels.specs.Layout.{lawful_label};
 
-/// The 32 bytes of a lawful label.
+use std::marker::Model;
+
+/// The 32 bytes of a lawful label: clauses see the bytes.
 #[derive(Clone, Copy)]
 pub struct Label {
     bytes: [u8; 32],
-    ghost lawful: { lawful_label bytes ≡ true },
+}
+
+impl Model for Label {
+    ghost Value = { List ℕ };
+
+    ghost view = { λ l. l.bytes };
+
+    ghost invariant = { λ l. lawful_label l.bytes ≡ true };
+
+    ghost inverse = { λ bytes. record { bytes = bytes } };
 }
 
 pub mod made;

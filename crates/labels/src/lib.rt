@@ -2,6 +2,7 @@
 #![tactic(auto)]
 
 pub mod characters;
+pub mod contents;
 pub mod fields;
 pub mod kind;
 pub mod label;

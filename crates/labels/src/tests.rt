@@ -1,5 +1,6 @@
 //! The named edges of the rules.
 use crate::characters::{is_a_character, is_date, is_n_character};
+use crate::contents::Contents;
 use crate::fields::Fields;
 use crate::kind::LabelKind;
 use crate::label::Label;
@@ -13,6 +14,16 @@ fn payroll() -> Fields {
         retention: *b"030",
         code: b'1',
         user: *b"USER",
+    }
+}
+
+fn says(kind: LabelKind, section: u8, count: u16) -> Contents {
+    Contents {
+        kind,
+        volume: *b"VOL1",
+        fields: payroll(),
+        section,
+        count,
     }
 }
 
@@ -36,6 +47,34 @@ fn characters(rt: HostRuntime) {
 }
 
 #[test]
+fn kinds(rt: HostRuntime) -> Result<(), Fail> {
+    for (kind, character, name) in [
+        (LabelKind::Hdr, b'1', "HDR"),
+        (LabelKind::Etr, b'3', "ETR"),
+        (LabelKind::Eov, b'7', "EOV"),
+        (LabelKind::Eof, b'9', "EOF"),
+    ] {
+        assert_eq!(rt; u8::from(kind), character);
+        assert_eq!(rt; LabelKind::try_from(character)?, kind);
+        assert_eq!(rt; kind.name(), name);
+        assert_eq!(rt; kind.to_string(rt.alloc())?.as_str(), name);
+    }
+    assert!(rt; LabelKind::try_from(b'5').is_err());
+    Ok(())
+}
+
+#[test]
+fn agreements(rt: HostRuntime) {
+    assert!(rt; payroll().agrees(&payroll()));
+    assert!(rt;
+        !payroll().agrees(&Fields {
+            user: *b"ELSE",
+            ..payroll()
+        })
+    );
+}
+
+#[test]
 fn dates(rt: HostRuntime) {
     for date in [*b"73001", *b"73366", *b"00000", *b"00366"] {
         assert!(rt; is_date(&date));
@@ -56,12 +95,20 @@ fn numbers(rt: HostRuntime) {
         (100, 1, false),
         (1, 10000, false),
     ] {
-        let label = Label::new(LabelKind::Eof, *b"VOL1", payroll(), section, count);
-        assert_eq!(rt; label.is_ok(), lawful);
+        let contents = says(LabelKind::Eof, section, count);
+        assert_eq!(rt; contents.is_lawful(), lawful);
+        assert_eq!(rt; Label::new(contents).is_ok(), lawful);
     }
-    assert!(rt; Label::new(LabelKind::Hdr, *b"VOL1", payroll(), 1, 0).is_ok());
-    assert!(rt; Label::new(LabelKind::Hdr, *b"VOL1", payroll(), 1, 1).is_err());
-    assert!(rt; Label::new(LabelKind::Hdr, *b"vol1", payroll(), 1, 0).is_err());
+    let header = says(LabelKind::Hdr, 1, 0);
+    assert!(rt; Label::new(header).is_ok());
+    assert!(rt; Label::new(Contents { count: 1, ..header }).is_err());
+    assert!(rt;
+        Label::new(Contents {
+            volume: *b"vol1",
+            ..header
+        })
+        .is_err()
+    );
 }
 
 #[test]
@@ -72,8 +119,10 @@ fn round_trips(rt: HostRuntime) -> Result<(), Fail> {
         (LabelKind::Eov, 1),
         (LabelKind::Eof, 0),
     ] {
-        let label = Label::new(kind, *b"VOL1", payroll(), 7, count)?;
+        let contents = says(kind, 7, count);
+        let label = Label::new(contents)?;
         let read = parse(label.as_bytes())?;
+        assert_eq!(rt; read.contents(), contents);
         assert_eq!(rt; read.kind(), kind);
         let parts = read.parts();
         assert_eq!(rt; parts.volume(), *b"VOL1");

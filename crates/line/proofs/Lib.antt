@@ -1,4 +1,5 @@
 pub mod Facts
+pub mod Ends
 pub mod Put
 pub mod Recorded
 pub mod Longer

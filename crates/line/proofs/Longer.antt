@@ -4,7 +4,7 @@ use Rattle.std.proofs.str.Laws.{order}
 use lib.ListN.{length-replicate}
 use Rattle.std.proofs.lemmas.List.{get_or_past}
 use Rattle.line_text.specs.declared.span.Span.{Span}
-use Rattle.line_text.specs.Layout.{lines_of, blank_span, span_items, sound_span, AllSound, Unmarked, NoneBehind, SomeThere, HeadInside, HeadPlaced}
+use Rattle.line_text.specs.Layout.{lines_of, blank_span, is_marked, span_items, sound_span, AllSound, Unmarked, NoneBehind, SomeThere, HeadInside, HeadPlaced}
 use Rattle.line_text.proofs.Laid.{Laid}
 use Rattle.line_text.proofs.Blanks.{span_with_blanks, with_blanks, laid_with_blanks, none_behind_blanks}
 use Rattle.line.specs.declared.line_transport.LineTransport.{LineTransport}
@@ -14,14 +14,14 @@ module _ (x : LineTransport) (n : ℕ) (spans : List Span) (is : spans ≡ vec_i
   pub longer : length spans ≡ length (vec_items x.spans) + n
   longer = ap length is ∙ length-append (vec_items x.spans) (replicate n blank_span) ∙ ap (λ n. length (vec_items x.spans) + n) (length-replicate n blank_span)
 
-  pub laid_more : Laid x.tracks (vec_items x.text) spans
-  laid_more = subst (Laid x.tracks (vec_items x.text)) (sym is) (laid_with_blanks x.tracks (vec_items x.text) (vec_items x.spans) n (laid_of x))
+  pub laid_more : Laid x.settings.tracks (vec_items x.text) spans
+  laid_more = subst (Laid x.settings.tracks (vec_items x.text)) (sym is) (laid_with_blanks x.settings.tracks (vec_items x.text) (vec_items x.spans) n (laid_of x))
 
   pub sound_more : AllSound spans
-  sound_more = subst AllSound (sym is) (with_blanks x.tracks (vec_items x.text) (vec_items x.spans) n (λ s. sound_span s ≡ true) refl x.sound)
+  sound_more = subst AllSound (sym is) (with_blanks x.settings.tracks (vec_items x.text) (vec_items x.spans) n (λ s. sound_span s ≡ true) refl x.sound)
 
-  pub unmarked_more : Unmarked x.marker spans
-  unmarked_more = subst (Unmarked x.marker) (sym is) (with_blanks x.tracks (vec_items x.text) (vec_items x.spans) n (λ s. s.marked ≡ false → s.count < x.marker) (λ e. omega (arith, x.foil)) x.unmarked)
+  pub unmarked_more : Unmarked x.settings.marker spans
+  unmarked_more = subst (Unmarked x.settings.marker) (sym is) (with_blanks x.settings.tracks (vec_items x.text) (vec_items x.spans) n (λ s. is_marked s ≡ false → s.count < x.settings.marker) (λ e. omega (arith, x.foil)) x.unmarked)
 
   pub behind_more : NoneBehind spans x.last
   behind_more = subst (λ l. NoneBehind l x.last) (sym is) (none_behind_blanks (vec_items x.spans) n x.last x.behind)
@@ -36,21 +36,21 @@ module _ (x : LineTransport) (n : ℕ) (spans : List Span) (is : spans ≡ vec_i
   pub same_span : (k : ℕ) → get_or spans k blank_span ≡ get_or (vec_items x.spans) k blank_span
   same_span k = ap (λ l. get_or l k blank_span) is ∙ span_with_blanks (vec_items x.spans) n k
 
-  pub head_more : HeadInside spans x.at x.item
-  head_more = (omega (arith, longer, x.head.0), omega (arith, x.head.1, ap (λ (s : Span). s.count) (same_span x.at)))
+  pub head_more : HeadInside spans x.head.at x.head.item
+  head_more = (omega (arith, longer, x.inside.0), omega (arith, x.inside.1, ap (λ (s : Span). s.count) (same_span x.head.at)))
 
-  pub reached_more : HeadPlaced x.tracks (vec_items x.text) spans x.at x.item x.pos
-  reached_more = subst (λ (s : Span). 0 < s.count → x.pos ≡ s.start + length (lines_of x.tracks x.at 0 (take x.item (span_items (vec_items x.text) s)))) (sym (same_span x.at)) x.reached
+  pub reached_more : HeadPlaced x.settings.tracks (vec_items x.text) spans x.head.at x.head.item x.head.pos
+  reached_more = subst (λ (s : Span). 0 < s.count → x.head.pos ≡ s.start + length (lines_of x.settings.tracks x.head.at 0 (take x.head.item (span_items (vec_items x.text) s)))) (sym (same_span x.head.at)) x.reached
 
 -- the tracks that there are, and those that may still be mounted
-pub whole_tracks : (x : LineTransport) → length (vec_items x.spans) / x.tracks * x.tracks ≡ length (vec_items x.spans)
-whole_tracks x = omega (arith, div-add-mod' (length (vec_items x.spans)) x.tracks, x.bounds.2)
+pub whole_tracks : (x : LineTransport) → length (vec_items x.spans) / x.settings.tracks * x.settings.tracks ≡ length (vec_items x.spans)
+whole_tracks x = omega (arith, div-add-mod' (length (vec_items x.spans)) x.settings.tracks, x.bounds.2)
 
-pub all_tracks : (x : LineTransport) → x.volumes * x.tracks ≡ length (vec_items x.spans) + x.left * x.tracks
-all_tracks x = ap (λ v. v * x.tracks) (sym x.bounds.3) ∙ add-mul (length (vec_items x.spans) / x.tracks) x.left x.tracks ∙ ap (λ m. m + x.left * x.tracks) (whole_tracks x)
+pub all_tracks : (x : LineTransport) → x.settings.volumes * x.settings.tracks ≡ length (vec_items x.spans) + x.left * x.settings.tracks
+all_tracks x = ap (λ v. v * x.settings.tracks) (sym x.bounds.3) ∙ add-mul (length (vec_items x.spans) / x.settings.tracks) x.left x.settings.tracks ∙ ap (λ m. m + x.left * x.settings.tracks) (whole_tracks x)
 
-pub some_volume : (x : LineTransport) → 1 ≤ x.volumes
-some_volume x = ⊎_elim (λ some. some) (λ none. absurd (omega (arith, x.head.0, whole_tracks x, ap (λ n. n * x.tracks) (no_volume none), zero-mul x.tracks))) (order 0 x.volumes)
+pub some_volume : (x : LineTransport) → 1 ≤ x.settings.volumes
+some_volume x = ⊎_elim (λ some. some) (λ none. absurd (omega (arith, x.inside.0, whole_tracks x, ap (λ n. n * x.settings.tracks) (no_volume none), zero-mul x.settings.tracks))) (order 0 x.settings.volumes)
   where
-    no_volume : x.volumes ≤ 0 → length (vec_items x.spans) / x.tracks ≡ 0
+    no_volume : x.settings.volumes ≤ 0 → length (vec_items x.spans) / x.settings.tracks ≡ 0
     no_volume h = omega (arith, x.bounds.3)

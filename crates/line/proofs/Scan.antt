@@ -1,5 +1,5 @@
 -- Line by line through a text. Assumes nothing.
-use Rattle.std.proofs.Common.{◌≡◌, ℕ, zero, suc, ◌+◌, ◌/◌, ◌%◌, ◌<◌, ◌≤◌, true, false, cond, ◌&&◌, List, [], ◌∷◌, length, get_or, take, drop, Some, None, Option, refl, ap, ◌∙◌, arith, length-drop, length-take}
+use Rattle.std.proofs.Common.{◌≡◌, ℕ, zero, suc, ◌+◌, ◌/◌, ◌%◌, ◌<◌, ◌≤◌, true, false, cond, ◌&&◌, List, [], ◌∷◌, ◌++◌, length, get_or, take, drop, Some, None, Option, sym, refl, ap, ◌∙◌, arith, length-append, length-drop, length-take, drop-drop, take-add}
 use Rattle.std.specs.Str.{bytes_eq}
 use Rattle.std.proofs.lemmas.Slice.Eq.{bytes_eq-Decides}
 use Rattle.std.proofs.lemmas.Bool.{and_parts}
@@ -69,3 +69,19 @@ pub line_there : (volumes : ℕ) (t : Tape) (bs : List ℕ) → lawful_line volu
 line_there volumes t bs e =
     let l = line_on t (track_named t.tracks bs) (item_in bs) in
     (bytes_eq-Decides (take (length l) bs) l).0 (and_parts (goes_on volumes t (track_named t.tracks bs) && proper (item_in bs)) (bytes_eq (take (length l) bs) l) e).1
+
+-- A lawful line is taken: the text is longer by it, and still the front of the source, and the lines
+-- that are left give what they gave with it.
+pub next_lines : (volumes : ℕ) (t u : Tape) (old new source : List ℕ) → length old < length source → old ≡ take (length old) source → lawful_line volumes t (drop (length old) source) ≡ true → u ≡ laid volumes t (track_named t.tracks (drop (length old) source)) (item_in (drop (length old) source)) → new ≡ old ++ line_on t (track_named t.tracks (drop (length old) source)) (item_in (drop (length old) source)) → (length old < length new) × (length new ≤ length source) × (lines_taken (length (drop (length new) source)) volumes u (drop (length new) source) ≡ lines_taken (length (drop (length old) source)) volumes t (drop (length old) source)) × (new ≡ take (length new) source)
+next_lines volumes t u old new source h front lawful tape text =
+    let rest = drop (length old) source in
+    let l = line_on t (track_named t.tracks rest) (item_in rest) in
+    let long : length new ≡ length old + length l = ap length text ∙ length-append old l in
+    let n = length-drop (length old) source in
+    let within = line_within volumes t rest lawful in
+    let next : drop (length new) source ≡ drop (length l) rest = ap (λ n. drop n source) long ∙ sym (drop-drop (length l) (length old) source) in (
+      omega (arith, long, line_long t (track_named t.tracks rest) (item_in rest)),
+      omega (arith, long, within, n, h),
+      (λ i. lines_taken (length (next i)) volumes (tape i) (next i)) ∙ sym (one_line volumes t rest (omega (arith, n, h)) lawful),
+      text ∙ (λ i. front i ++ sym (line_there volumes t rest lawful) i) ∙ sym (take-add (length old) (length l) source) ∙ ap (λ n. take n source) (sym long),
+    )

@@ -8,14 +8,14 @@ use Rattle.line.specs.declared.line_transport.LineTransport.{LineTransport}
 use Rattle.line.specs.declared.settings.Settings.{Settings}
 
 abbrev pub line_tape : LineTransport → Tape
-line_tape x = tape_in x.tracks (vec_items x.text) (vec_items x.spans) x.at x.item x.left x.failed
+line_tape x = tape_in x.settings.tracks (vec_items x.text) (vec_items x.spans) x.head.at x.head.item x.left x.failed
 
 -- Nothing of a line transport is open: it meets each track's marker at one write,
 -- and fails exactly where the next line does not fit its text.
 abbrev pub line_choice : LineTransport → Item → Choice
 line_choice x i = record {
-  meets = (suc (length (here (line_tape x)).items) == x.marker);
-  fails = not (nat_le (length (vec_items x.text) + line_size i) x.room);
+  meets = (suc (length (here (line_tape x)).items) == x.settings.marker);
+  fails = not (nat_le (length (vec_items x.text) + line_size i) x.settings.room);
 }
 
 -- at every other function there is nothing to choose, and it never fails
@@ -24,4 +24,4 @@ sure = record { meets = false; fails = false }
 
 -- the settings that it was made with
 abbrev pub settings_of : LineTransport → Settings
-settings_of x = record { tracks = x.tracks; volumes = x.volumes; marker = x.marker; room = x.room }
+settings_of x = x.settings

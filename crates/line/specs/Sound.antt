@@ -10,11 +10,11 @@ use Rattle.line.specs.declared.line_transport.LineTransport.{LineTransport}
 use Rattle.line.specs.Meaning.{line_tape}
 
 -- the head's track has the items that its span counts
-pub here_count : (x : LineTransport) → length (here (line_tape x)).items ≡ (slice_index_or (vec_items x.spans) x.at blank_span).count
+pub here_count : (x : LineTransport) → length (here (line_tape x)).items ≡ (slice_index_or (vec_items x.spans) x.head.at blank_span).count
 here_count x =
     let text = vec_items x.text in
-    let s = slice_index_or (vec_items x.spans) x.at blank_span in
-    ap (λ (t : Track). length t.items) (get_or-map (track_of text) (vec_items x.spans) x.at blank_span blank_track x.head.0)
+    let s = slice_index_or (vec_items x.spans) x.head.at blank_span in
+    ap (λ (t : Track). length t.items) (get_or-map (track_of text) (vec_items x.spans) x.head.at blank_span blank_track x.inside.0)
     ∙ length_items_in s.count (drop s.start text)
 
 -- a sound span's track is sound
@@ -41,9 +41,9 @@ sound_of x =
     record {
       some_track = x.bounds.0;
       few_tracks = x.bounds.1;
-      whole_volumes = ap (λ m. m % x.tracks) n ∙ x.bounds.2;
+      whole_volumes = ap (λ m. m % x.settings.tracks) n ∙ x.bounds.2;
       few_volumes = rw n (omega (arith, x.bounds.3, x.bounds.4));
-      head_track = omega (arith, n, x.head.0);
-      head_item = omega (arith, here_count x, x.head.1);
+      head_track = omega (arith, n, x.inside.0);
+      head_item = omega (arith, here_count x, x.inside.1);
       every_track = every_from text spans (λ k h. sound_track text (slice_index_or spans k blank_span) (x.sound k h) (x.propers k h));
     }

@@ -54,9 +54,13 @@ line_on t k i = line (k / t.tracks + 1) (k % t.tracks + 1) (suc (length (get_or 
 abbrev pub goes_on : ℕ → Tape → ℕ → Bool
 goes_on volumes t k = nat_lt k (volumes * t.tracks) && nat_le t.at k && nat_lt (length (get_or t.image k blank_track).items) most_items
 
+-- the text begins with the item's own line on track k
+abbrev pub is_own_line : Tape → ℕ → Item → List ℕ → Bool
+is_own_line t k i bs = bytes_eq (take (length (line_on t k i)) bs) (line_on t k i)
+
 abbrev pub lawful_line : ℕ → Tape → List ℕ → Bool
 lawful_line volumes t bs =
-    goes_on volumes t (track_named t.tracks bs) && proper (item_in bs) && bytes_eq (take (length (line_on t (track_named t.tracks bs) (item_in bs))) bs) (line_on t (track_named t.tracks bs) (item_in bs))
+    goes_on volumes t (track_named t.tracks bs) && proper (item_in bs) && is_own_line t (track_named t.tracks bs) (item_in bs) bs
 
 -- line by line to the text's end; no text has more lines than bytes
 unfoldable pub lines_taken : ℕ → ℕ → Tape → List ℕ → Option Tape

@@ -3,16 +3,33 @@ ghost use Rattle.std.specs.Prelude.{◌≡◌, ◌+◌, ◌*◌, ◌/◌, ◌%�
 ghost use Rattle.tape.specs.Tape.{most_tracks, most_volumes, first_marker, last_marker};
 ghost use Rattle.line_text.specs.Layout.{Whole, Placed, Propers, AllSound, NoneBehind, SomeThere, HeadInside, HeadPlaced, Unmarked};
 
+use crate::settings::Settings;
 use line_text::span::Span;
 
 pub mod interface;
 mod laying;
 mod moving;
-mod questions;
 mod reading;
 mod setup;
 mod taking;
 mod writing;
+
+// The head: its track, the items passed there, and the place of the next one's line in the text.
+#[derive(Clone, Copy)]
+struct Head {
+    at: usize,
+    item: usize,
+    pos: usize,
+}
+
+impl Head {
+    // Before the first item of a track whose lines begin at `pos`.
+    fn start_of(at: usize, pos: usize) -> Head
+        ensures { result ≡ record { at = at; item = 0; pos = pos } }
+    {
+        Head { at, item: 0, pos }
+    }
+}
 
 /// A transport whose tape is a text, a line an item. Its memory is obtained once, when it is made.
 #[derive(Drop)]
@@ -20,30 +37,24 @@ pub struct LineTransport {
     text: Vec<u8>,
     // one for each track of each volume mounted so far
     spans: Vec<Span>,
-    tracks: usize,
-    volumes: usize,
-    marker: usize,
-    room: usize,
+    settings: Settings,
     // volumes still to be mounted
     left: usize,
-    // the head: its track, the items passed there, and the place of its line in the text
-    at: usize,
-    item: usize,
-    pos: usize,
+    head: Head,
     // the last track that has items
     last: usize,
     failed: bool,
-    ghost whole: { Whole tracks text.items spans.items },
-    ghost placed: { Placed tracks text.items spans.items },
+    ghost whole: { Whole settings.tracks text.items spans.items },
+    ghost placed: { Placed settings.tracks text.items spans.items },
     ghost propers: { Propers text.items spans.items },
     ghost sound: { AllSound spans.items },
     ghost ending: { last < length spans.items },
     ghost behind: { NoneBehind spans.items last },
     ghost there: { SomeThere spans.items last },
-    ghost head: { HeadInside spans.items at item },
-    ghost reached: { HeadPlaced tracks text.items spans.items at item pos },
-    ghost unmarked: { Unmarked marker spans.items },
-    ghost bounds: { (1 ≤ tracks) × (tracks ≤ most_tracks) × (length spans.items % tracks ≡ 0) × (length spans.items / tracks + left ≡ volumes) × (volumes ≤ most_volumes) },
-    ghost memory: { (room ≤ vec_capacity text) × (length text.items ≤ room) × (length spans.items + left * tracks ≤ vec_capacity spans) },
-    ghost foil: { (first_marker ≤ marker) × (marker ≤ last_marker) },
+    ghost inside: { HeadInside spans.items head.at head.item },
+    ghost reached: { HeadPlaced settings.tracks text.items spans.items head.at head.item head.pos },
+    ghost unmarked: { Unmarked settings.marker spans.items },
+    ghost bounds: { (1 ≤ settings.tracks) × (settings.tracks ≤ most_tracks) × (length spans.items % settings.tracks ≡ 0) × (length spans.items / settings.tracks + left ≡ settings.volumes) × (settings.volumes ≤ most_volumes) },
+    ghost memory: { (settings.room ≤ vec_capacity text) × (length text.items ≤ settings.room) × (length spans.items + left * settings.tracks ≤ vec_capacity spans) },
+    ghost foil: { (first_marker ≤ settings.marker) × (settings.marker ≤ last_marker) },
 }

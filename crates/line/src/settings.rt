@@ -2,7 +2,7 @@
 ghost use Rattle.std.specs.Prelude.{◌≡◌};
 ghost use Rattle.line.specs.Settings.{lawful_settings};
 
-use tape::bounds::{FIRST_MARKER, LAST_MARKER, MOST_TRACKS, MOST_VOLUMES};
+use tape::bounds::{FIRST_MARKER, LAST_MARKER, is_size};
 
 /// Tracks of a volume (1 or 2); volumes in all (1 to 49), the first of them mounted from the start;
 /// the write that meets each track's marker (3 to 60,000); and the room for the text in bytes.
@@ -19,10 +19,7 @@ impl Settings {
     pub(crate) fn is_lawful(&self) -> bool
         ensures { result ≡ lawful_settings self.now }
     {
-        1 <= self.tracks
-            && self.tracks <= MOST_TRACKS
-            && 1 <= self.volumes
-            && self.volumes <= MOST_VOLUMES
+        is_size(self.tracks, self.volumes)
             && FIRST_MARKER <= self.marker
             && self.marker <= LAST_MARKER
     }

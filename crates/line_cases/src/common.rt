@@ -1,100 +1,42 @@
-//! What the cases share: a transport to try, and the words that are printed.
-use anyhow::anyhow;
+//! What the cases share: the usual settings, and what is printed.
+use case_words::answer::Answer;
 use line::line_transport::LineTransport;
 use line::settings::Settings;
-use std::alloc::Global;
-use std::io;
-use tape::item::{ItemRef, Kind};
+use std::{fmt, io};
+use tape::bounds::{LAST_MARKER, MOST_ITEMS};
+use tape::item::Kind;
 use tape::place::Place;
-use tape::refusal::{Layer, Refusal};
+use tape::refusal::Refusal;
 use tape::transport::{Fault, Transport};
 
-pub fn settings(tracks: usize, volumes: usize, marker: usize, room: usize) -> Settings {
-    Settings {
-        tracks,
-        volumes,
-        marker,
-        room,
-    }
-}
+/// Settings that leave room for most cases, which change one or two of them.
+pub(crate) const USUAL: Settings = Settings {
+    tracks: 2,
+    volumes: 2,
+    marker: LAST_MARKER,
+    room: 4096,
+};
 
-pub fn transport(heap: Global, settings: Settings) -> anyhow::Result<LineTransport> {
-    match LineTransport::new(heap, settings) {
-        Ok(line) => Ok(line),
-        Err(_) => Err(anyhow!("no transport")),
-    }
-}
+/// A place in short.
+#[derive(Clone, Copy)]
+pub(crate) struct At(pub(crate) Place);
 
-/// Whether it is as it was made: no text, no item, one volume, the head at its front.
-pub fn is_blank(line: &LineTransport) -> bool {
-    line.text().is_empty()
-        && !line.has_items()
-        && !line.marked()
-        && !line.failed()
-        && line.all_tracks() == line.tracks()
-        && is_at(line.place(), 1, 1, 1)
-}
-
-pub fn is_at(place: Place, volume: usize, track: usize, item: usize) -> bool {
-    place.volume == volume && place.track == track && place.item == item
-}
-
-pub fn yes(b: bool) -> &'static str {
-    if b { "yes" } else { "no" }
-}
-
-fn layer_word(layer: Layer) -> &'static str {
-    match layer {
-        Layer::Transport => "transport",
-        Layer::Label => "label",
-        Layer::Structure => "structure",
+impl fmt::Display for At {
+    fn fmt<W: fmt::Write>(&self, f: &mut fmt::Formatter<W>) -> fmt::Result {
+        let place = self.0;
+        write!(f, "{}/{}/{}", place.volume, place.track, place.item)
     }
 }
 
 /// Why a call was refused, by which layer, and the place that the refusal speaks of.
-pub fn show_refusal(rt: &HostRuntime, refusal: Refusal) -> io::Result<()> {
-    let number = refusal.reason.number();
-    let layer = layer_word(refusal.reason.layer());
-    print!(rt; "refused={number} layer={layer} place=")?;
-    show_place(rt, refusal.place)
-}
-
-pub fn show_place(rt: &HostRuntime, place: Place) -> io::Result<()> {
-    let volume = place.volume;
-    let track = place.track;
-    let item = place.item;
-    print!(rt; "{volume}/{track}/{item}")
-}
-
-fn fault_word(fault: Fault) -> &'static str {
-    match fault {
-        Fault::TurnedDown => "down",
-        Fault::Failed => "failed",
-    }
-}
-
-/// Of a write: taken, taken with the marker met, turned down or failed.
-pub fn write_word(answer: Result<bool, Fault>) -> &'static str {
-    match answer {
-        Ok(true) => "marker",
-        Ok(false) => "taken",
-        Err(fault) => fault_word(fault),
-    }
-}
-
-pub fn move_word(answer: Result<(), Fault>) -> &'static str {
-    match answer {
-        Ok(()) => "done",
-        Err(fault) => fault_word(fault),
-    }
-}
-
-pub fn following_word(answer: Result<bool, Fault>) -> &'static str {
-    match answer {
-        Ok(true) => "there",
-        Ok(false) => "none",
-        Err(fault) => fault_word(fault),
-    }
+pub(crate) fn show_refusal(rt: &HostRuntime, refusal: Refusal) -> io::Result<()> {
+    let reason = refusal.reason;
+    print!(rt;
+        "refused={} layer={} place={}",
+        reason.number(),
+        reason.layer(),
+        At(refusal.place)
+    )
 }
 
 fn kind_word(kind: Kind) -> &'static str {
@@ -104,24 +46,14 @@ fn kind_word(kind: Kind) -> &'static str {
     }
 }
 
-pub fn look_word(answer: Result<Option<Kind>, Fault>) -> &'static str {
-    match answer {
-        Ok(Some(kind)) => kind_word(kind),
-        Ok(None) => "end",
-        Err(fault) => fault_word(fault),
-    }
+/// Of a look: what comes next.
+pub(crate) fn seen(answer: Result<Option<Kind>, Fault>) -> Answer {
+    Answer(answer.map(|next| next.map_or("end", kind_word)))
 }
 
-pub fn read_word(answer: Result<Kind, Fault>) -> &'static str {
-    match answer {
-        Ok(kind) => kind_word(kind),
-        Err(fault) => fault_word(fault),
-    }
-}
-
-/// A mark, as an item to be written.
-pub fn a_mark<'a>() -> ItemRef<'a> {
-    ItemRef::Mark
+/// Of a read: what was passed.
+pub(crate) fn passed(answer: Result<Kind, Fault>) -> Answer {
+    Answer(answer.map(kind_word))
 }
 
 fn passes(line: &mut LineTransport) -> bool {
@@ -130,13 +62,6 @@ fn passes(line: &mut LineTransport) -> bool {
 }
 
 /// Passes the items that the head's track still has, and counts them.
-pub fn to_end(line: &mut LineTransport) -> usize {
-    let mut passed = 0usize;
-    for i in 0..100000 {
-        if !passes(line) {
-            break;
-        }
-        passed = i + 1;
-    }
-    passed
+pub(crate) fn to_end(line: &mut LineTransport) -> usize {
+    (0..MOST_ITEMS).take_while(|_| passes(line)).count()
 }

@@ -1,7 +1,11 @@
 //! Texts that must be taken: each is handed out again byte for byte, its tracks with items count as
 //! marked with their eight writes taken, and a blank track is as new.
-use crate::common::{a_mark, settings, to_end, transport, write_word, yes};
+use crate::common::{USUAL, to_end};
+use case_words::answer::{Answer, written, yes};
 use line::line_transport::LineTransport;
+use line::settings::Settings;
+use std::io;
+use tape::item::ItemRef;
 use tape::transport::Transport;
 
 const MARK: &[u8] = b"vol=01 track=1 item=00001 kind=mark\n";
@@ -18,31 +22,33 @@ const BLANK_VOLUME: &[u8] = b"vol=01 track=1 item=00001 kind=mark\n\
 vol=03 track=1 item=00001 kind=mark\n\
 vol=03 track=1 item=00002 kind=mark\n";
 
-// Of a track: how many items it has, and whether its marker is met.
-fn track_word(line: &mut LineTransport, k: usize) -> (usize, &'static str) {
-    let _ = line.seek_track(k);
-    (to_end(line), if line.marked() { "m" } else { "" })
-}
+const THREE_VOLUMES: Settings = Settings {
+    volumes: 3,
+    ..USUAL
+};
 
-fn show_tracks(rt: &HostRuntime, line: &mut LineTransport) -> anyhow::Result<()> {
+// Of each track: how many items it has, and whether its marker is met.
+fn show_tracks(rt: &HostRuntime, line: &mut LineTransport) -> io::Result<()> {
     for k in 0..line.all_tracks() {
-        let (items, marked) = track_word(line, k);
+        let _ = line.seek_track(k);
+        let items = to_end(line);
+        let marked = if line.marked() { "m" } else { "" };
         print!(rt; " {items}{marked}")?;
     }
     Ok(())
 }
 
 // A mark behind the last item of a track.
-fn one_more(line: &mut LineTransport, k: usize) -> &'static str {
+fn one_more(line: &mut LineTransport, k: usize) -> Answer {
     if !line.seek_track(k) {
-        return "no track";
+        return Answer(Ok("no track"));
     }
     let _ = to_end(line);
-    write_word(line.write(a_mark()))
+    written(line.write(ItemRef::Mark))
 }
 
 fn good(rt: &HostRuntime, name: &str, text: &[u8], last: usize) -> anyhow::Result<()> {
-    let mut line = transport(rt.alloc(), settings(2, 3, 60000, 4096))?;
+    let mut line = LineTransport::new(rt.alloc(), THREE_VOLUMES)?;
     let taken = yes(line.take(text).is_ok());
     let same = yes(line.text() == text);
     print!(rt; "{name}: taken={taken} same={same} tracks")?;
@@ -56,7 +62,7 @@ fn good(rt: &HostRuntime, name: &str, text: &[u8], last: usize) -> anyhow::Resul
 
 // A text in place of another.
 fn again(rt: &HostRuntime) -> anyhow::Result<()> {
-    let mut line = transport(rt.alloc(), settings(2, 3, 60000, 4096))?;
+    let mut line = LineTransport::new(rt.alloc(), THREE_VOLUMES)?;
     let first = yes(line.take(BLANK_VOLUME).is_ok());
     let second = yes(line.take(SECOND_TRACK).is_ok());
     let same = yes(line.text() == SECOND_TRACK);
@@ -65,7 +71,7 @@ fn again(rt: &HostRuntime) -> anyhow::Result<()> {
     Ok(())
 }
 
-pub fn run(rt: &HostRuntime) -> anyhow::Result<()> {
+pub(crate) fn run(rt: &HostRuntime) -> anyhow::Result<()> {
     good(rt, "empty text", b"", 0)?;
     good(rt, "one mark", MARK, 0)?;
     good(rt, "two tracks", TWO_TRACKS, 1)?;

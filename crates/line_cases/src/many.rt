@@ -1,38 +1,45 @@
 //! Many items and many volumes, so that every digit of a line's numbers is used.
-use crate::common::{a_mark, move_word, settings, transport, yes};
+use crate::common::USUAL;
+use case_words::answer::{moved, yes};
 use line::line_transport::LineTransport;
+use line::settings::Settings;
 use line_text::lines::{block_head_of, head_of};
+use std::str::from_utf8;
+use tape::item::ItemRef;
 use tape::place::Place;
 use tape::transport::Transport;
 
-// The last bytes of a text.
-fn tail(text: &[u8], size: usize) -> &[u8] {
-    let from = text.len().saturating_sub(size);
-    &text[from..text.len()]
-}
+// Room for just so many marks.
+const ITEMS: Settings = Settings {
+    tracks: 1,
+    volumes: 1,
+    room: 4428,
+    ..USUAL
+};
 
-// The last line, which is a mark's.
+const VOLUMES: Settings = Settings {
+    tracks: 1,
+    volumes: 49,
+    ..USUAL
+};
+
 fn show_last(rt: &HostRuntime, line: &LineTransport) -> anyhow::Result<()> {
-    let text = std::str::from_utf8(tail(line.text(), 36))?;
-    print!(rt; "{text}")?;
+    let last = from_utf8(line.text())?.lines().last().unwrap_or("");
+    println!(rt; "{last}")?;
     Ok(())
 }
 
+// Marks until one is not taken, and how many are.
 fn marks(line: &mut LineTransport, n: usize) -> usize {
-    let mut taken = 0usize;
-    for i in 0..n {
-        if line.write(a_mark()).is_err() {
-            break;
-        }
-        taken = i + 1;
-    }
-    taken
+    (0..n)
+        .take_while(|_| line.write(ItemRef::Mark).is_ok())
+        .count()
 }
 
 fn items(rt: &HostRuntime) -> anyhow::Result<()> {
-    let mut from = transport(rt.alloc(), settings(1, 1, 60000, 4428))?;
+    let mut from = LineTransport::new(rt.alloc(), ITEMS)?;
     let written = marks(&mut from, 123);
-    let mut to = transport(rt.alloc(), settings(1, 1, 60000, 4428))?;
+    let mut to = LineTransport::new(rt.alloc(), ITEMS)?;
     let taken = yes(to.take(from.text()).is_ok());
     let same = yes(to.text() == from.text());
     println!(rt; "many items: {written} taken={taken} same={same}")?;
@@ -41,13 +48,13 @@ fn items(rt: &HostRuntime) -> anyhow::Result<()> {
 
 // A mark on each volume.
 fn volumes(rt: &HostRuntime) -> anyhow::Result<()> {
-    let mut line = transport(rt.alloc(), settings(1, 49, 60000, 4096))?;
+    let mut line = LineTransport::new(rt.alloc(), VOLUMES)?;
     let mut written = marks(&mut line, 1);
     for _ in 0..48 {
         let _ = line.mount();
         written = written.saturating_add(marks(&mut line, 1));
     }
-    let more = move_word(line.mount());
+    let more = moved(line.mount());
     println!(rt; "many volumes: {written}, one more={more}")?;
     show_last(rt, &line)
 }
@@ -60,13 +67,15 @@ fn parts(rt: &HostRuntime) -> anyhow::Result<()> {
         item: 98765,
     });
     let block = block_head_of(234);
-    let head = std::str::from_utf8(&head)?;
-    let block = std::str::from_utf8(&block)?;
-    println!(rt; "parts of a line: {head}{block}")?;
+    println!(rt;
+        "parts of a line: {}{}",
+        from_utf8(&head)?,
+        from_utf8(&block)?
+    )?;
     Ok(())
 }
 
-pub fn run(rt: &HostRuntime) -> anyhow::Result<()> {
+pub(crate) fn run(rt: &HostRuntime) -> anyhow::Result<()> {
     items(rt)?;
     volumes(rt)?;
     parts(rt)

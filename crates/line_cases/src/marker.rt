@@ -1,72 +1,86 @@
 //! The marker: which write meets it, and what a track takes behind it.
-use crate::common::{move_word, settings, transport, write_word, yes};
+use crate::common::USUAL;
+use case_words::answer::{moved, written, yes};
 use line::line_transport::LineTransport;
+use line::settings::Settings;
+use std::io;
 use tape::item::ItemRef;
 use tape::transport::Transport;
 
-fn marks(rt: &HostRuntime, line: &mut LineTransport, n: usize) -> anyhow::Result<()> {
+fn with_marker(rt: &HostRuntime, marker: usize) -> anyhow::Result<LineTransport> {
+    let chosen = Settings { marker, ..USUAL };
+    Ok(LineTransport::new(rt.alloc(), chosen)?)
+}
+
+fn marks(rt: &HostRuntime, line: &mut LineTransport, n: usize) -> io::Result<()> {
     for _ in 0..n {
-        let word = write_word(line.write(ItemRef::Mark));
+        let word = written(line.write(ItemRef::Mark));
         let marked = yes(line.marked());
         print!(rt; " {word}/{marked}")?;
     }
-    println!(rt; "")?;
-    Ok(())
+    println!(rt; "")
 }
 
 // The answer of each write, and whether the marker is met behind it.
 fn met(rt: &HostRuntime, marker: usize, n: usize) -> anyhow::Result<()> {
-    let mut line = transport(rt.alloc(), settings(2, 2, marker, 4096))?;
+    let mut line = with_marker(rt, marker)?;
     print!(rt; "marker {marker}:")?;
     marks(rt, &mut line, n)?;
     let bytes = line.text().len();
-    let next = move_word(line.next_track());
+    let next = moved(line.next_track());
     let marked = yes(line.marked());
     print!(rt; "  bytes={bytes} next track={next} marked={marked}:")?;
-    marks(rt, &mut line, 1)
-}
-
-fn block(rt: &HostRuntime, line: &mut LineTransport, bytes: &[u8]) -> anyhow::Result<()> {
-    let size = bytes.len();
-    let before = line.text().len();
-    let word = write_word(line.write(ItemRef::Block(bytes)));
-    let more = line.text().len().saturating_sub(before);
-    println!(rt; "  a block of {size}: {word} bytes={more}")?;
+    marks(rt, &mut line, 1)?;
     Ok(())
 }
 
-fn blocks(rt: &HostRuntime, line: &mut LineTransport) -> anyhow::Result<()> {
+fn block(rt: &HostRuntime, line: &mut LineTransport, bytes: &[u8]) -> io::Result<()> {
+    let size = bytes.len();
+    let before = line.text().len();
+    let word = written(line.write(ItemRef::Block(bytes)));
+    let more = line.text().len().saturating_sub(before);
+    println!(rt; "  a block of {size}: {word} bytes={more}")
+}
+
+fn blocks(rt: &HostRuntime, line: &mut LineTransport) -> io::Result<()> {
     let bytes = [65u8; 257];
-    block(rt, line, &bytes[0..0])?;
-    block(rt, line, &bytes[0..1])?;
-    block(rt, line, &bytes[0..32])?;
-    block(rt, line, &bytes[0..33])?;
-    block(rt, line, &bytes[0..256])?;
-    block(rt, line, &bytes[0..257])
+    for size in [0, 1, 32, 33, 256, 257] {
+        block(rt, line, bytes.get(..size).unwrap_or(&bytes))?;
+    }
+    Ok(())
 }
 
 fn sizes(rt: &HostRuntime) -> anyhow::Result<()> {
-    let mut line = transport(rt.alloc(), settings(2, 2, 10, 4096))?;
+    let mut line = with_marker(rt, 10)?;
     println!(rt; "before the marker:")?;
-    blocks(rt, &mut line)
+    blocks(rt, &mut line)?;
+    Ok(())
 }
 
 fn sizes_behind(rt: &HostRuntime) -> anyhow::Result<()> {
-    let mut line = transport(rt.alloc(), settings(2, 2, 3, 4096))?;
+    let mut line = with_marker(rt, 3)?;
     print!(rt; "behind the marker:")?;
     marks(rt, &mut line, 3)?;
-    blocks(rt, &mut line)
+    blocks(rt, &mut line)?;
+    Ok(())
 }
 
 // The write that meets the marker may be a long block.
 fn long_at_marker(rt: &HostRuntime) -> anyhow::Result<()> {
-    let mut line = transport(rt.alloc(), settings(1, 1, 3, 4096))?;
+    let one = Settings {
+        tracks: 1,
+        volumes: 1,
+        marker: 3,
+        ..USUAL
+    };
+    let mut line = LineTransport::new(rt.alloc(), one)?;
     print!(rt; "a long block at the marker:")?;
     marks(rt, &mut line, 2)?;
-    block(rt, &mut line, &[66u8; 256])
+    block(rt, &mut line, &[66u8; 256])?;
+    Ok(())
 }
 
-pub fn run(rt: &HostRuntime) -> anyhow::Result<()> {
+pub(crate) fn run(rt: &HostRuntime) -> anyhow::Result<()> {
     met(rt, 3, 12)?;
     met(rt, 4, 13)?;
     sizes(rt)?;

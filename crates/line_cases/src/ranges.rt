@@ -1,54 +1,68 @@
 //! Settings out of their range, one by one, and the edges that are taken.
-use crate::common::{is_blank, settings, show_refusal, yes};
+use crate::common::show_refusal;
+use case_words::answer::yes;
+use case_words::blank::is_blank;
 use line::line_transport::LineTransport;
 use line::settings::Settings;
 use std::io;
 use tape::refusal::SetupError;
 
-fn made(rt: &HostRuntime, line: &LineTransport) -> io::Result<()> {
-    let blank = yes(is_blank(line));
-    println!(rt; "made blank={blank}")
-}
+const SMALL: Settings = Settings {
+    tracks: 2,
+    volumes: 2,
+    marker: 10,
+    room: 100,
+};
 
-fn refused(rt: &HostRuntime, error: SetupError) -> io::Result<()> {
-    match error {
-        SetupError::Refused(refusal) => {
+// Makes a transport with one setting of this value, and tells what came of it.
+fn range(rt: &HostRuntime, name: &str, value: usize, chosen: Settings) -> io::Result<()> {
+    print!(rt; "{name} {value}: ")?;
+    match LineTransport::new(rt.alloc(), chosen) {
+        Ok(line) => println!(rt; "made blank={}", yes(is_blank(&line))),
+        Err(SetupError::Refused(refusal)) => {
             show_refusal(rt, refusal)?;
             println!(rt; "")
         }
-        SetupError::NoMemory => println!(rt; "no memory"),
+        Err(error) => rt.println(error),
     }
 }
 
-fn range(rt: &HostRuntime, name: &str, chosen: Settings) -> anyhow::Result<()> {
-    print!(rt; "{name}: ")?;
-    match LineTransport::new(rt.alloc(), chosen) {
-        Ok(line) => made(rt, &line)?,
-        Err(error) => refused(rt, error)?,
-    }
-    Ok(())
+fn tracks(rt: &HostRuntime, tracks: usize) -> io::Result<()> {
+    range(rt, "tracks", tracks, Settings { tracks, ..SMALL })
 }
 
-fn outside(rt: &HostRuntime) -> anyhow::Result<()> {
-    range(rt, "tracks 0", settings(0, 2, 10, 100))?;
-    range(rt, "tracks 3", settings(3, 2, 10, 100))?;
-    range(rt, "volumes 0", settings(2, 0, 10, 100))?;
-    range(rt, "volumes 50", settings(2, 50, 10, 100))?;
-    range(rt, "marker 2", settings(2, 2, 2, 100))?;
-    range(rt, "marker 60001", settings(2, 2, 60001, 100))
+fn volumes(rt: &HostRuntime, volumes: usize) -> io::Result<()> {
+    range(rt, "volumes", volumes, Settings { volumes, ..SMALL })
 }
 
-fn edges(rt: &HostRuntime) -> anyhow::Result<()> {
-    range(rt, "tracks 1", settings(1, 2, 10, 100))?;
-    range(rt, "tracks 2", settings(2, 2, 10, 100))?;
-    range(rt, "volumes 1", settings(2, 1, 10, 100))?;
-    range(rt, "volumes 49", settings(2, 49, 10, 100))?;
-    range(rt, "marker 3", settings(2, 2, 3, 100))?;
-    range(rt, "marker 60000", settings(2, 2, 60000, 100))?;
-    range(rt, "room 0", settings(2, 2, 10, 0))
+fn marker(rt: &HostRuntime, marker: usize) -> io::Result<()> {
+    range(rt, "marker", marker, Settings { marker, ..SMALL })
 }
 
-pub fn run(rt: &HostRuntime) -> anyhow::Result<()> {
+fn room(rt: &HostRuntime, room: usize) -> io::Result<()> {
+    range(rt, "room", room, Settings { room, ..SMALL })
+}
+
+fn outside(rt: &HostRuntime) -> io::Result<()> {
+    tracks(rt, 0)?;
+    tracks(rt, 3)?;
+    volumes(rt, 0)?;
+    volumes(rt, 50)?;
+    marker(rt, 2)?;
+    marker(rt, 60001)
+}
+
+fn edges(rt: &HostRuntime) -> io::Result<()> {
+    tracks(rt, 1)?;
+    tracks(rt, 2)?;
+    volumes(rt, 1)?;
+    volumes(rt, 49)?;
+    marker(rt, 3)?;
+    marker(rt, 60000)?;
+    room(rt, 0)
+}
+
+pub(crate) fn run(rt: &HostRuntime) -> io::Result<()> {
     outside(rt)?;
     edges(rt)
 }

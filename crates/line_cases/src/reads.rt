@@ -1,19 +1,15 @@
 //! Reads into buffers that are too short, just long enough, and longer.
-use crate::common::{look_word, read_word, settings, transport, write_word, yes};
+use crate::common::{USUAL, passed, seen};
+use case_words::answer::{written, yes};
 use line::line_transport::LineTransport;
+use std::io;
 use tape::item::{ItemRef, Kind};
-use tape::transport::{Fault, Transport};
+use tape::transport::Transport;
 
-fn size_of(answer: Result<Kind, Fault>) -> usize {
-    match answer {
-        Ok(Kind::Block(size)) => size,
-        _ => 0,
-    }
-}
-
-fn size_ahead(line: &mut LineTransport) -> usize {
-    match line.look() {
-        Ok(Some(Kind::Block(size))) => size,
+// A block's size, and 0 of anything else.
+fn size_of(kind: Option<Kind>) -> usize {
+    match kind {
+        Some(Kind::Block(size)) => size,
         _ => 0,
     }
 }
@@ -24,32 +20,31 @@ fn read(
     line: &mut LineTransport,
     buffer: &mut [u8],
     wanted: &[u8],
-) -> anyhow::Result<()> {
+) -> io::Result<()> {
     let room = buffer.len();
     let answer = line.read(buffer);
-    let word = read_word(answer);
-    let size = size_of(answer);
+    let word = passed(answer);
+    let size = size_of(answer.ok());
     let holds = yes(*buffer == *wanted);
     let item = line.place().item;
-    let look = look_word(line.look());
-    let ahead = size_ahead(line);
+    let next = line.look();
+    let look = seen(next);
+    let ahead = size_of(next.ok().flatten());
     println!(rt;
         "buffer of {room}: {word} size={size} holds={holds} item={item} look={look} size={ahead}"
-    )?;
-    Ok(())
+    )
 }
 
-fn recorded(rt: &HostRuntime, line: &mut LineTransport) -> anyhow::Result<()> {
-    let block = write_word(line.write(ItemRef::Block(b"WXYZ")));
-    let mark = write_word(line.write(ItemRef::Mark));
-    let long = write_word(line.write(ItemRef::Block(&[200u8; 256])));
+fn recorded(rt: &HostRuntime, line: &mut LineTransport) -> io::Result<()> {
+    let block = written(line.write(ItemRef::Block(b"WXYZ")));
+    let mark = written(line.write(ItemRef::Mark));
+    let long = written(line.write(ItemRef::Block(&[200u8; 256])));
     let back = yes(line.rewind().is_ok());
-    println!(rt; "reads: {block} {mark} {long} back={back}")?;
-    Ok(())
+    println!(rt; "reads: {block} {mark} {long} back={back}")
 }
 
-pub fn run(rt: &HostRuntime) -> anyhow::Result<()> {
-    let mut line = transport(rt.alloc(), settings(2, 2, 60000, 4096))?;
+pub(crate) fn run(rt: &HostRuntime) -> anyhow::Result<()> {
+    let mut line = LineTransport::new(rt.alloc(), USUAL)?;
     recorded(rt, &mut line)?;
     read(rt, &mut line, &mut [1, 2, 3], &[1, 2, 3])?;
     read(rt, &mut line, &mut [9; 6], b"WXYZ\x09\x09")?;
@@ -58,5 +53,6 @@ pub fn run(rt: &HostRuntime) -> anyhow::Result<()> {
     read(rt, &mut line, &mut [9; 256], &[200; 256])?;
     read(rt, &mut line, &mut [9; 2], &[9; 2])?;
     let _ = line.rewind();
-    read(rt, &mut line, &mut [9; 4], b"WXYZ")
+    read(rt, &mut line, &mut [9; 4], b"WXYZ")?;
+    Ok(())
 }

@@ -1,6 +1,9 @@
 //! A round trip: what is written on two tracks of two volumes is handed out as text, and taken again.
-use crate::common::{settings, to_end, transport, yes};
+use crate::common::{USUAL, to_end};
+use case_words::answer::yes;
 use line::line_transport::LineTransport;
+use std::io;
+use std::str::from_utf8;
 use tape::item::ItemRef;
 use tape::transport::{Fault, Transport};
 
@@ -31,28 +34,26 @@ fn write(rt: &HostRuntime, line: &mut LineTransport) -> anyhow::Result<()> {
     let second = yes(second_volume(line).is_ok());
     let same = yes(line.text() == WRITTEN);
     println!(rt; "round trip: volume 1={first} volume 2={second} as written={same}")?;
-    let text = std::str::from_utf8(line.text())?;
-    print!(rt; "{text}")?;
+    print!(rt; "{}", from_utf8(line.text())?)?;
     Ok(())
 }
 
-fn tracks(rt: &HostRuntime, line: &mut LineTransport) -> anyhow::Result<()> {
+fn tracks(rt: &HostRuntime, line: &mut LineTransport) -> io::Result<()> {
     print!(rt; "taken again, items:")?;
     for k in 0..line.all_tracks() {
         let _ = line.seek_track(k);
-        let items = to_end(line);
-        print!(rt; " {items}")?;
+        print!(rt; " {}", to_end(line))?;
     }
-    println!(rt; "")?;
-    Ok(())
+    println!(rt; "")
 }
 
-pub fn run(rt: &HostRuntime) -> anyhow::Result<()> {
-    let mut from = transport(rt.alloc(), settings(2, 2, 60000, 4096))?;
+pub(crate) fn run(rt: &HostRuntime) -> anyhow::Result<()> {
+    let mut from = LineTransport::new(rt.alloc(), USUAL)?;
     write(rt, &mut from)?;
-    let mut to = transport(rt.alloc(), settings(2, 2, 60000, 4096))?;
+    let mut to = LineTransport::new(rt.alloc(), USUAL)?;
     let taken = yes(to.take(from.text()).is_ok());
     let same = yes(to.text() == from.text());
     println!(rt; "taken again: taken={taken} same={same}")?;
-    tracks(rt, &mut to)
+    tracks(rt, &mut to)?;
+    Ok(())
 }

@@ -1,7 +1,8 @@
 -- Blank tracks behind the others. Assumes nothing.
-use Rattle.std.proofs.Common.{◌≡◌, ℕ, zero, suc, ◌<◌, ◌≤◌, true, List, [], ◌∷◌, ◌++◌, map, length, get_or, take, replicate, sym, refl, ap, ◌∙◌, subst, ⊎_elim, arith}
+use Rattle.std.proofs.Common.{◌≡◌, ℕ, zero, suc, ◌<◌, true, List, [], ◌∷◌, ◌++◌, map, length, get_or, replicate, sym, refl, ap, ◌∙◌, subst, ⊎_elim, arith}
 use lib.ListN.{length-map}
 use lib.Seq.{take-append-le}
+use Rattle.std.proofs.lemmas.Grind.{common_steps}
 use Rattle.std.proofs.lemmas.List.{map-append, get_or_past}
 use Rattle.std.proofs.str.Laws.{order}
 use Rattle.tape.specs.Tape.{Track, blank_track}
@@ -12,11 +13,7 @@ use Rattle.line_text.proofs.Laid.{Laid}
 
 -- what is not there reads as the default, so more of it behind changes no reading
 pub read_with_more : {A : Type 0} (xs : List A) (d : A) (n k : ℕ) → get_or (xs ++ replicate n d) k d ≡ get_or xs k d
-read_with_more [] d zero k = refl
-read_with_more [] d (suc n) zero = refl
-read_with_more [] d (suc n) (suc k) = read_with_more [] d n k
-read_with_more (x ∷ xs) d n zero = refl
-read_with_more (x ∷ xs) d n (suc k) = read_with_more xs d n k
+read_with_more xs d n k = grind (arith, common_steps)
 
 pub span_with_blanks : (spans : List Span) (n k : ℕ) → get_or (spans ++ replicate n blank_span) k blank_span ≡ get_or spans k blank_span
 span_with_blanks spans n k = read_with_more spans blank_span n k
@@ -24,7 +21,7 @@ span_with_blanks spans n k = read_with_more spans blank_span n k
 blanks_in : (text : List ℕ) (n : ℕ) → map (track_of text) (replicate n blank_span) ≡ replicate n blank_track
 unfolding items_in
 blanks_in text zero = refl
-blanks_in text (suc n) = ap (λ l. blank_track ∷ l) (blanks_in text n)
+blanks_in text (suc n) = let h = blanks_in text n in grind arith
 
 pub image_with_blanks : (text : List ℕ) (spans : List Span) (n : ℕ) → image_of text (spans ++ replicate n blank_span) ≡ image_of text spans ++ replicate n blank_track
 image_with_blanks text spans n = map-append (track_of text) spans (replicate n blank_span) ∙ ap (λ l. image_of text spans ++ l) (blanks_in text n)
@@ -33,11 +30,11 @@ text_of_blanks : (w k : ℕ) (xs : List Track) (n : ℕ) → text_from w k (xs +
 unfolding text_from lines_of
 text_of_blanks w k [] zero = refl
 text_of_blanks w k [] (suc n) = text_of_blanks w (suc k) [] n
-text_of_blanks w k (x ∷ xs) n = ap (λ l. lines_of w k 0 x.items ++ l) (text_of_blanks w (suc k) xs n)
+text_of_blanks w k (x ∷ xs) n = grind (arith, text_of_blanks w (suc k) xs n)
 
 -- a fact of every span that is there, and of a blank one, is a fact of every number
-pub of_any : (P : Span → Type 0) (spans : List Span) → P blank_span → ((k : ℕ) → k < length spans → P (get_or spans k blank_span)) → (k : ℕ) → P (get_or spans k blank_span)
-of_any P spans blank there k = ⊎_elim (there k) (λ past. subst P (sym (get_or_past spans k blank_span past)) blank) (order k (length spans))
+of_any : (P : Span → Type 0) (spans : List Span) → P blank_span → ((k : ℕ) → k < length spans → P (get_or spans k blank_span)) → (k : ℕ) → P (get_or spans k blank_span)
+of_any P spans blank there k = grind (arith, get_or_past)
 
 module _ (w : ℕ) (text : List ℕ) (spans : List Span) (n : ℕ) where
   -- the same with blank tracks behind
@@ -47,21 +44,17 @@ module _ (w : ℕ) (text : List ℕ) (spans : List Span) (n : ℕ) where
   pub laid_with_blanks : Laid w text spans → Laid w text (spans ++ replicate n blank_span)
   unfolding items_in
   laid_with_blanks laid = record {
-    whole = laid.whole ∙ sym (text_of_blanks w 0 (image_of text spans) n) ∙ ap (text_from w 0) (sym (image_with_blanks text spans n));
+    whole = grind (arith, laid.whole, text_of_blanks, image_with_blanks);
     placed = placed_with;
     propers = with_blanks (λ s. all_proper (span_items text s) ≡ true) refl laid.propers;
   }
     where
       placed_with : Placed w text (spans ++ replicate n blank_span)
       placed_with k h some =
-          let some' : 0 < (get_or spans k blank_span).count = subst (λ (s : Span). 0 < s.count) (span_with_blanks spans n k) some in
           ⊎_elim
-          (λ inside.
-          let long : k ≤ length (image_of text spans) = omega (arith, length-map spans (track_of text)) in
-          ap (λ (s : Span). s.start) (span_with_blanks spans n k) ∙ laid.placed k inside some' ∙ ap (λ l. length (text_from w 0 l)) (sym (ap (take k) (image_with_blanks text spans n) ∙ take-append-le k (image_of text spans) (replicate n blank_track) long)))
-          (λ past. absurd (omega (arith, some', ap (λ (s : Span). s.count) (get_or_past spans k blank_span past))))
+          (λ inside. grind (arith, span_with_blanks, laid.placed k inside, image_with_blanks, take-append-le k (image_of text spans) (replicate n blank_track), length-map))
+          (λ past. grind (arith, span_with_blanks, get_or_past spans k blank_span past))
           (order k (length spans))
 
 pub none_behind_blanks : (spans : List Span) (n last : ℕ) → NoneBehind spans last → NoneBehind (spans ++ replicate n blank_span) last
-none_behind_blanks spans n last none k h past =
-    ap (λ (s : Span). s.count) (span_with_blanks spans n k) ∙ ⊎_elim (λ inside. none k inside past) (λ out. ap (λ (s : Span). s.count) (get_or_past spans k blank_span out)) (order k (length spans))
+none_behind_blanks spans n last none k h past = grind (arith, span_with_blanks, get_or_past, none k)

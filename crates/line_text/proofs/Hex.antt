@@ -1,42 +1,39 @@
 -- Hex digits written and read back. Assumes nothing.
-use Rattle.std.proofs.Common.{◌≡◌, ℕ, zero, suc, ◌+◌, ◌*◌, ◌/◌, ◌%◌, ◌<◌, true, ltb, List, [], ◌∷◌, ◌++◌, length, get_or, drop, set, sym, refl, ap, ◌∙◌, add-one, arith, get_or-drop, lt-ltb}
+use Rattle.std.proofs.Common.{◌≡◌, ℕ, zero, suc, ◌+◌, ◌*◌, ◌<◌, true, ltb, List, [], ◌∷◌, ◌++◌, length, get_or, drop, set, sym, refl, ap, ◌∙◌, add-one, arith, get_or-drop, drop-drop, lt-ltb}
 use lib.Seq.{set_at, append_snoc}
-use Rattle.std.proofs.lemmas.List.{drop_more}
-use Rattle.std.proofs.lemmas.Bool.{and_from, and_parts}
-use Rattle.line_text.specs.Lines.{hex_digit, hex_pair, hex_value, hexed, unhexed, byte_in, small}
+use Rattle.std.proofs.lemmas.List.{drop_more, flat_map_more}
+use Rattle.std.proofs.lemmas.List.Folds.{list_all-append}
+use Rattle.std.proofs.lemmas.Bool.{and_from}
+use Rattle.figures.specs.Hex.{hex_pair}
+use Rattle.line_text.specs.Lines.{hex_value, hexed, unhexed, byte_in, small}
 
--- the i-th byte of a row of hex digits
-abbrev pub hex_byte : List ℕ → ℕ → ℕ
-hex_byte bs i = 16 * hex_value (get_or bs (2 * i) 0) + hex_value (get_or bs (1 + 2 * i) 0)
-
-pub unhexed_more : (n : ℕ) (bs : List ℕ) → unhexed (suc n) bs ≡ unhexed n bs ++ hex_byte bs n ∷ []
+unhexed_more : (n : ℕ) (bs : List ℕ) → unhexed (suc n) bs ≡ unhexed n bs ++ unhexed 1 (drop (2 * n) bs)
 unhexed_more zero bs = refl
 unhexed_more (suc n) bs =
-    let e : 2 + 2 * n ≡ 2 * suc n = omega arith in
-    let f : 2 + (1 + 2 * n) ≡ 1 + 2 * suc n = omega arith in
-    let g : hex_byte (drop 2 bs) n ≡ hex_byte bs (suc n) = ap (λ x. 16 * hex_value x + hex_value (get_or (drop 2 bs) (1 + 2 * n) 0)) (get_or-drop 2 bs (2 * n) 0 ∙ ap (λ k. get_or bs k 0) e) ∙ ap (λ x. 16 * hex_value (get_or bs (2 * suc n) 0) + hex_value x) (get_or-drop 2 bs (1 + 2 * n) 0 ∙ ap (λ k. get_or bs k 0) f) in
-    ap (λ l. (16 * hex_value (get_or bs 0 0) + hex_value (get_or bs 1 0)) ∷ l) (unhexed_more n (drop 2 bs) ∙ ap (λ x. unhexed n (drop 2 bs) ++ x ∷ []) g)
+    let there : drop (2 * n) (drop 2 bs) ≡ drop (2 * suc n) bs = rw drop-drop (ap (λ k. drop k bs) (omega arith)) in
+    ap (λ l. (16 * hex_value (get_or bs 0 0) + hex_value (get_or bs 1 0)) ∷ l) (unhexed_more n (drop 2 bs) ∙ ap (λ l. unhexed n (drop 2 bs) ++ unhexed 1 l) there)
+
+-- a line's bytes stand behind its first 50
+byte_there : (line : List ℕ) (i : ℕ) → unhexed 1 (drop (2 * i) (drop 50 line)) ≡ byte_in line i ∷ []
+byte_there line i =
+    let high : get_or (drop (2 * i) (drop 50 line)) 0 0 ≡ get_or line (50 + 2 * i) 0 = rw (drop-drop, get_or-drop) (ap (λ k. get_or line k 0) (omega arith)) in
+    let low : get_or (drop (2 * i) (drop 50 line)) 1 0 ≡ get_or line (51 + 2 * i) 0 = rw (drop-drop, get_or-drop) (ap (λ k. get_or line k 0) (omega arith)) in
+    (λ j. (16 * hex_value (high j) + hex_value (low j)) ∷ [])
 
 pub length_unhexed : (n : ℕ) (bs : List ℕ) → length (unhexed n bs) ≡ n
 length_unhexed zero bs = refl
 length_unhexed (suc n) bs = ap suc (length_unhexed n (drop 2 bs))
 
--- a line's bytes stand behind its first 50
-pub byte_in_line : (line : List ℕ) (i : ℕ) → hex_byte (drop 50 line) i ≡ byte_in line i
-byte_in_line line i =
-    let f : 50 + (1 + 2 * i) ≡ 51 + 2 * i = omega arith in
-    ap (λ x. 16 * hex_value x + hex_value (get_or (drop 50 line) (1 + 2 * i) 0)) (get_or-drop 50 line (2 * i) 0) ∙ ap (λ x. 16 * hex_value (get_or line (50 + 2 * i) 0) + hex_value x) (get_or-drop 50 line (1 + 2 * i) 0 ∙ ap (λ k. get_or line k 0) f)
-
 pub hexed_push : (bs : List ℕ) (b : ℕ) → hexed (bs ++ b ∷ []) ≡ hexed bs ++ hex_pair b
-hexed_push [] b = refl
-hexed_push (a ∷ bs) b = ap (λ l. hex_digit (a / 16) ∷ hex_digit (a % 16) ∷ l) (hexed_push bs b)
+hexed_push bs b = sym (flat_map_more hex_pair [] bs b)
 
 pub small_push : (bs : List ℕ) (b : ℕ) → small bs ≡ true → b < 256 → small (bs ++ b ∷ []) ≡ true
-small_push [] b h l = and_from _ _ (lt-ltb b 256 l) refl
-small_push (a ∷ bs) b h l = let p = and_parts (ltb a 256) (small bs) h in and_from _ _ p.0 (small_push bs b p.1 l)
+small_push bs b h l = list_all-append (λ b. ltb b 256) bs (b ∷ []) ∙ and_from _ _ h (and_from _ _ (lt-ltb b 256 l) refl)
 
--- one byte more at the front of a buffer
-pub copied_more : (digits buffer : List ℕ) (i : ℕ) → i < length buffer → set (unhexed i digits ++ drop i buffer) i (hex_byte digits i) ≡ unhexed (i + 1) digits ++ drop (i + 1) buffer
-copied_more digits buffer i h =
-    rw (drop_more buffer i 0 h)
-    (set_at (unhexed i digits) (get_or buffer i 0) (drop (i + 1) buffer) (hex_byte digits i) i (length_unhexed i digits) ∙ sym (append_snoc (unhexed i digits) (hex_byte digits i) (drop (i + 1) buffer)) ∙ ap (λ l. l ++ drop (i + 1) buffer) (sym (rw add-one (unhexed_more i digits))))
+-- one byte more of a line's block at the front of a buffer
+pub copied_more : (line buffer now : List ℕ) (i b : ℕ) → i < length buffer → now ≡ unhexed i (drop 50 line) ++ drop i buffer → b ≡ byte_in line i → set now i b ≡ unhexed (i + 1) (drop 50 line) ++ drop (i + 1) buffer
+copied_more line buffer now i b h e f =
+    let digits = drop 50 line in
+    let more : unhexed (i + 1) digits ≡ unhexed i digits ++ byte_in line i ∷ [] = rw add-one (unhexed_more i digits ∙ ap (λ l. unhexed i digits ++ l) (byte_there line i)) in
+    rw (e, f, more, drop_more buffer i 0 h)
+    (set_at (unhexed i digits) (get_or buffer i 0) (drop (i + 1) buffer) (byte_in line i) i (length_unhexed i digits) ∙ sym (append_snoc (unhexed i digits) (byte_in line i) (drop (i + 1) buffer)))

@@ -1,10 +1,11 @@
 -- What the layout of a text gives: where an item's line stands, and what one more line does. Assumes nothing.
-use Rattle.std.proofs.Common.{◌≡◌, ℕ, suc, ◌+◌, ◌/◌, ◌%◌, ◌<◌, ◌≤◌, List, [], ◌∷◌, ◌++◌, map, length, get_or, take, drop, sym, refl, ap, ◌∙◌, append_assoc, zero-add, arith, length-append, length-drop, take-append-drop, length-take, drop-cons, drop-drop}
+use Rattle.std.proofs.Common.{◌≡◌, ℕ, suc, ◌+◌, ◌/◌, ◌%◌, ◌<◌, ◌≤◌, List, [], ◌∷◌, ◌++◌, map, length, get_or, take, drop, sym, refl, ap, ◌∙◌, append_assoc, arith, length-append, length-drop, take-append-drop, length-take, drop-cons, drop-drop}
 use lib.ListN.{length-map}
 use lib.Seq.{drop-append_seam}
+use Rattle.std.proofs.lemmas.Grind.{common_steps}
 use Rattle.std.proofs.lemmas.List.{get_or-map, take_more}
 use Rattle.tape.specs.Items.{Item, mark}
-use Rattle.tape.specs.Tape.{Track, blank_track}
+use Rattle.tape.specs.Tape.{blank_track}
 use Rattle.line_text.specs.declared.span.Span.{Span}
 use Rattle.line_text.specs.Lines.{line, line_size}
 use Rattle.line_text.proofs.OneLine.{length_line}
@@ -15,7 +16,7 @@ use Rattle.line_text.proofs.Rows.{lines_append, lines_push, text_split}
 -- two functions that agree on a list's elements make the same list of it
 pub map_agrees : {X Y : Type 0} (f g : X → Y) (xs : List X) (d : X) → ((k : ℕ) → k < length xs → f (get_or xs k d) ≡ g (get_or xs k d)) → map f xs ≡ map g xs
 map_agrees f g [] d h = refl
-map_agrees f g (x ∷ xs) d h = λ i. h 0 (omega arith) i ∷ map_agrees f g xs d (λ k l. h (suc k) (omega arith)) i
+map_agrees f g (x ∷ xs) d h = grind (arith, h 0, map_agrees f g xs d (λ k l. h (suc k) (omega arith)))
 
 -- the text and its spans, with what they keep
 pub record Laid (w : ℕ) (text : List ℕ) (spans : List Span) : Type 0 where
@@ -31,14 +32,11 @@ module _ (w : ℕ) (text : List ℕ) (spans : List Span) (laid : Laid w text spa
   pub lines_at : (k : ℕ) → k < length spans → 0 < (get_or spans k blank_span).count → (rest : List ℕ) × (drop (get_or spans k blank_span).start text ≡ lines_of w k 0 (span_items text (get_or spans k blank_span)) ++ rest) × ((get_or spans k blank_span).start ≤ length text)
   lines_at k h some =
       let image = image_of text spans in
-      let long : k < length image = rw length-map h in
-      let before = text_from w 0 (take k image) in
-      let behind = text_from w (suc (0 + k)) (drop (suc k) image) in
-      let own = lines_of w k 0 (span_items text (get_or spans k blank_span)) in
-      let mine : lines_of w (0 + k) 0 (get_or image k blank_track).items ≡ own = ap (λ m. lines_of w m 0 (get_or image k blank_track).items) (zero-add k) ∙ ap (λ (x : Track). lines_of w k 0 x.items) (track_at k h) in
-      let split : text ≡ before ++ (own ++ behind) = laid.whole ∙ text_split w 0 image k long ∙ ap (λ l. before ++ (l ++ behind)) mine in
-      let start : (get_or spans k blank_span).start ≡ length before = laid.placed k h some in
-      (behind, ap (λ n. drop n text) start ∙ ap (drop (length before)) split ∙ drop-append_seam before (own ++ behind), omega (arith, ap length split, length-append before (own ++ behind)))
+      let split = text_split w 0 image k (rw length-map h) in
+      let mine = track_at k h in
+      let start = laid.placed k h some in
+      let whole = laid.whole in
+      (text_from w (suc (0 + k)) (drop (suc k) image), grind (arith, common_steps), grind (arith, common_steps))
 
   -- the line of a track's n-th item, where it stands
   pub line_at : (k n pos : ℕ) → k < length spans → n < (get_or spans k blank_span).count → pos ≡ (get_or spans k blank_span).start + length (lines_of w k 0 (take n (span_items text (get_or spans k blank_span)))) → (rest : List ℕ) × (drop pos text ≡ line (k / w + 1) (k % w + 1) (suc n) (get_or (span_items text (get_or spans k blank_span)) n mark) ++ rest) × (pos ≤ length text)
@@ -53,13 +51,11 @@ module _ (w : ℕ) (text : List ℕ) (spans : List Span) (laid : Laid w text spa
       let t = k % w + 1 in
       let found = lines_at k h (omega arith) in
       let tail = lines_of w k (suc n) (drop (suc n) items) in
-      let counted : 0 + length (take n items) ≡ n = zero-add _ ∙ length-take n items ∙ omega arith in
-      let cut : lines_of w k 0 items ≡ front ++ (line v t (suc n) x ++ tail) = ap (lines_of w k 0) (sym (take-append-drop n items)) ∙ lines_append w k 0 (take n items) (drop n items) ∙ ap (λ m. front ++ lines_of w k m (drop n items)) counted ∙ ap (λ l. front ++ lines_of w k n l) (drop-cons items n mark long) in
-      let there : drop s.start text ≡ front ++ ((line v t (suc n) x ++ tail) ++ found.0) = found.1 ∙ ap (λ l. l ++ found.0) cut ∙ append_assoc front (line v t (suc n) x ++ tail) found.0 in
+      let cut : lines_of w k 0 items ≡ front ++ (line v t (suc n) x ++ tail) = grind (arith, take-append-drop n items, lines_append w k 0 (take n items) (drop n items), length-take, drop-cons items n mark long) in
+      let there : drop s.start text ≡ front ++ ((line v t (suc n) x ++ tail) ++ found.0) = grind (arith, found.1, cut, append_assoc) in
       let seen : drop pos text ≡ (line v t (suc n) x ++ tail) ++ found.0 = ap (λ m. drop m text) is ∙ sym (drop-drop (length front) s.start text) ∙ ap (drop (length front)) there ∙ drop-append_seam front _ in
       (tail ++ found.0, seen ∙ append_assoc (line v t (suc n) x) tail found.0, omega (arith, found.2, ap length there, length-drop s.start text, length-append front ((line v t (suc n) x ++ tail) ++ found.0)))
 
 -- the lines of one item more
 pub one_line_more : (w k n : ℕ) (items : List Item) → n < length items → length (lines_of w k 0 (take (n + 1) items)) ≡ length (lines_of w k 0 (take n items)) + line_size (get_or items n mark)
-one_line_more w k n items h =
-    ap (λ l. length (lines_of w k 0 l)) (take_more items n mark h) ∙ ap length (lines_push w k 0 (take n items) (get_or items n mark)) ∙ length-append (lines_of w k 0 (take n items)) _ ∙ ap (λ m. length (lines_of w k 0 (take n items)) + m) (length_line _ _ _ (get_or items n mark))
+one_line_more w k n items h = grind (arith, common_steps, take_more, lines_push, length_line)

@@ -1,5 +1,5 @@
 -- The tracks that lie in a text, line by line, and the text of a list of tracks. Assumes nothing.
-use Rattle.std.specs.Prelude.{◌≡◌, ℕ, zero, suc, ◌+◌, ◌-◌, ◌/◌, ◌%◌, ◌<◌, ◌≤◌, Bool, true, false, cond, ◌&&◌, List, [], ◌∷◌, ◌++◌, map, length, get_or, take, drop, ◌==◌, nat_le, nat_lt, slice_index_or}
+use Rattle.std.specs.Prelude.{◌≡◌, ℕ, zero, suc, ◌+◌, ◌-◌, ◌/◌, ◌%◌, ◌<◌, ◌≤◌, Bool, true, false, cond, ◌&&◌, List, [], ◌∷◌, ◌++◌, map, length, get_or, take, drop, ◌==◌, nat_le, nat_lt, slice_index_or, None, is_some, unwrap_or}
 use Rattle.tape.specs.Items.{Item}
 use Rattle.tape.specs.Tape.{Track, Tape, most_items, last_marker, writes_after}
 use Rattle.tape.specs.Sound.{all_proper}
@@ -12,13 +12,20 @@ items_in zero bs = []
 items_in (suc n) bs = item_in bs ∷ items_in n (drop (size_of_line_in bs) bs)
 
 abbrev pub blank_span : Span
-blank_span = record { start = 0; count = 0; marked = false; since = 0 }
+blank_span = record { start = 0; count = 0; since = None }
+
+-- whether a track's marker is met, and the writes taken since: none where it is not met
+abbrev pub is_marked : Span → Bool
+is_marked s = is_some s.since
+
+abbrev pub taken_since : Span → ℕ
+taken_since s = unwrap_or s.since 0
 
 abbrev pub span_items : List ℕ → Span → List Item
 span_items text s = items_in s.count (drop s.start text)
 
 abbrev pub track_of : List ℕ → Span → Track
-track_of text s = record { items = span_items text s; marked = s.marked; since = s.since }
+track_of text s = record { items = span_items text s; marked = is_marked s; since = taken_since s }
 
 abbrev pub image_of : List ℕ → List Span → List Track
 image_of text spans = map (track_of text) spans
@@ -52,7 +59,7 @@ Propers text spans = (k : ℕ) → k < length spans → all_proper (span_items t
 
 -- What a span's numbers keep: those of a sound track.
 abbrev pub sound_span : Span → Bool
-sound_span s = nat_le s.count most_items && cond s.marked (nat_le 1 s.count && nat_le s.since writes_after && nat_le (s.count + (writes_after - s.since)) most_items) (nat_lt s.count last_marker && s.since == 0)
+sound_span s = nat_le s.count most_items && cond (is_marked s) (nat_le 1 s.count && nat_le (taken_since s) writes_after && nat_le (s.count + (writes_after - taken_since s)) most_items) (nat_lt s.count last_marker && taken_since s == 0)
 
 abbrev pub AllSound : List Span → Type 0
 AllSound spans = (k : ℕ) → k < length spans → sound_span (slice_index_or spans k blank_span) ≡ true
@@ -75,7 +82,7 @@ HeadPlaced w text spans at item pos = 0 < (get_or spans at blank_span).count →
 
 -- an unmarked track has fewer items than the write that meets its marker
 abbrev pub Unmarked : ℕ → List Span → Type 0
-Unmarked marker spans = (k : ℕ) → k < length spans → (get_or spans k blank_span).marked ≡ false → (get_or spans k blank_span).count < marker
+Unmarked marker spans = (k : ℕ) → k < length spans → is_marked (get_or spans k blank_span) ≡ false → (get_or spans k blank_span).count < marker
 
 -- the tape that a text, its spans and a head stand for
 abbrev pub tape_in : ℕ → List ℕ → List Span → ℕ → ℕ → ℕ → Bool → Tape

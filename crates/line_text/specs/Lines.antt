@@ -1,17 +1,16 @@
 -- The line of an item, and an item read off its line. Assumes nothing.
-use Rattle.std.specs.Prelude.{ℕ, zero, suc, ◌+◌, ◌-◌, ◌*◌, ◌/◌, ◌%◌, Bool, true, cond, ◌&&◌, List, [], ◌∷◌, ◌++◌, length, drop, codes, ◌==◌, nat_le, nat_lt, slice_index}
+use Rattle.std.specs.Prelude.{ℕ, zero, suc, ◌+◌, ◌-◌, ◌*◌, ◌%◌, Bool, true, cond, List, [], ◌∷◌, ◌++◌, length, drop, codes, ◌==◌, nat_le, nat_lt, slice_index}
+use Rattle.std.specs.List.{flat_map, list_all}
+use Rattle.figures.specs.Decimal.{decimal}
+use Rattle.figures.specs.Hex.{hex_pair}
 use Rattle.tape.specs.Items.{Item, mark, block}
 use Rattle.tape.specs.declared.item.Kind.{Kind}
 use Rattle.tape.specs.declared.item.Kind.TheVariants as told
 
--- the last decimal digit of a number, as a character
-abbrev pub digit : ℕ → ℕ
-digit n = 48 + n % 10
-
 -- `vol=01 track=1 item=00002 kind=`, 31 bytes
 unfoldable pub line_head : ℕ → ℕ → ℕ → List ℕ
 line_head v t n =
-    codes "vol=" ++ digit (v / 10) ∷ digit v ∷ codes " track=" ++ digit t ∷ codes " item=" ++ digit (n / 10000) ∷ digit (n / 1000) ∷ digit (n / 100) ∷ digit (n / 10) ∷ digit n ∷ codes " kind="
+    codes "vol=" ++ decimal 2 v ++ codes " track=" ++ decimal 1 t ++ codes " item=" ++ decimal 5 n ++ codes " kind="
 
 -- `mark` and a line feed, 5 bytes
 abbrev pub mark_tail : List ℕ
@@ -19,23 +18,15 @@ mark_tail = 109 ∷ 97 ∷ 114 ∷ 107 ∷ 10 ∷ []
 
 -- `block size=001 hex=`, 19 bytes
 unfoldable pub block_head : ℕ → List ℕ
-block_head n = codes "block size=" ++ digit (n / 100) ∷ digit (n / 10) ∷ digit n ∷ codes " hex="
+block_head n = codes "block size=" ++ decimal 3 n ++ codes " hex="
 
--- hex digits are capitals
-abbrev pub hex_digit : ℕ → ℕ
-hex_digit n = cond (nat_lt n 10) (48 + n) (55 + n)
-
-abbrev pub hex_pair : ℕ → List ℕ
-hex_pair b = hex_digit (b / 16) ∷ hex_digit (b % 16) ∷ []
-
+-- two hex digits for each byte
 abbrev pub hexed : List ℕ → List ℕ
-hexed [] = []
-hexed (b ∷ bs) = hex_digit (b / 16) ∷ hex_digit (b % 16) ∷ hexed bs
+hexed bs = flat_map hex_pair bs
 
 -- all are bytes
 abbrev pub small : List ℕ → Bool
-small [] = true
-small (b ∷ bs) = nat_lt b 256 && small bs
+small bs = list_all (λ b. nat_lt b 256) bs
 
 abbrev pub small_item : Item → Bool
 small_item mark = true

@@ -1,99 +1,32 @@
 //! The parts of a line, written and read.
 ghost use Rattle.std.specs.Prelude.{◌≡◌, ◌+◌, ◌*◌, ◌<◌, ◌&&◌, List, [], ◌∷◌, ◌++◌, length, drop, if◌then◌else◌, nat_le, slice_index};
 ghost use Rattle.tape.specs.Items.{item_of};
-ghost use Rattle.line_text.specs.Lines.{line_head, block_head, hex_pair, line_size, hex_value, byte_in, kind_in, volume_in, track_in, unhexed};
+ghost use Rattle.line_text.specs.Lines.{line_head, block_head, line_size, digit_value, hex_value, byte_in, kind_in, volume_in, track_in, unhexed};
 
+use figures::decimal::decimal;
 use tape::item::{ItemRef, Kind};
 use tape::place::Place;
 
-// The last decimal digit of a number, as a character.
-fn digit(n: usize) -> u8
-    ensures { result ≡ Rattle.line_text.specs.Lines.digit n }
-{
-    (48 + n % 10) as u8
-}
-
 /// The 31 bytes that begin every line: the item's place, and `kind=`.
+#[tactic(auto, unfolding(crate::specs::Lines::line_head))]
 pub fn head_of(place: Place) -> [u8; 31]
     ensures { result ≡ line_head place.volume place.track place.item }
 {
-    let v = place.volume;
-    let n = place.item;
-    [
-        b'v',
-        b'o',
-        b'l',
-        b'=',
-        digit(v / 10),
-        digit(v),
-        b' ',
-        b't',
-        b'r',
-        b'a',
-        b'c',
-        b'k',
-        b'=',
-        digit(place.track),
-        b' ',
-        b'i',
-        b't',
-        b'e',
-        b'm',
-        b'=',
-        digit(n / 10000),
-        digit(n / 1000),
-        digit(n / 100),
-        digit(n / 10),
-        digit(n),
-        b' ',
-        b'k',
-        b'i',
-        b'n',
-        b'd',
-        b'=',
-    ]
+    let mut head = *b"vol=00 track=0 item=00000 kind=";
+    head[4..6].copy_from_slice(&decimal::<2>(place.volume));
+    head[13..14].copy_from_slice(&decimal::<1>(place.track));
+    head[20..25].copy_from_slice(&decimal::<5>(place.item));
+    head
 }
 
 /// `block size=`, the length in three digits, and ` hex=`.
+#[tactic(auto, unfolding(crate::specs::Lines::block_head))]
 pub fn block_head_of(size: usize) -> [u8; 19]
     ensures { result ≡ block_head size }
 {
-    [
-        b'b',
-        b'l',
-        b'o',
-        b'c',
-        b'k',
-        b' ',
-        b's',
-        b'i',
-        b'z',
-        b'e',
-        b'=',
-        digit(size / 100),
-        digit(size / 10),
-        digit(size),
-        b' ',
-        b'h',
-        b'e',
-        b'x',
-        b'=',
-    ]
-}
-
-// A hex digit, in capitals.
-fn hex_digit(n: u8) -> u8
-    requires { n < 16 }
-    ensures { result ≡ Rattle.line_text.specs.Lines.hex_digit n }
-{
-    if n < 10 { 48 + n } else { 55 + n }
-}
-
-/// The two hex digits of a byte.
-pub fn hex_of(b: u8) -> [u8; 2]
-    ensures { result ≡ hex_pair b }
-{
-    [hex_digit(b / 16), hex_digit(b % 16)]
+    let mut head = *b"block size=000 hex=";
+    head[11..14].copy_from_slice(&decimal::<3>(size));
+    head
 }
 
 /// Whether the line of an item takes no more than `left` bytes.
@@ -102,12 +35,7 @@ pub fn fits(item: ItemRef<'_>, left: usize) -> bool
 {
     match item {
         ItemRef::Mark => 36 <= left,
-        ItemRef::Block(bytes) => {
-            if left < 51 {
-                return false;
-            }
-            bytes.len() <= (left - 51) / 2
-        }
+        ItemRef::Block(bytes) => 51 <= left && bytes.len() <= (left - 51) / 2,
     }
 }
 
@@ -115,15 +43,15 @@ pub fn fits(item: ItemRef<'_>, left: usize) -> bool
 fn at(line: &[u8], i: usize) -> u8
     ensures { result ≡ slice_index line.now i }
 {
-    if i < line.len() { line[i] } else { 0 }
+    line.get(i).copied().unwrap_or(0)
 }
 
 // The value of a decimal digit, in the wide type that sums are taken in.
 fn digit_at(line: &[u8], i: usize) -> usize
-    ensures value { result ≡ Rattle.line_text.specs.Lines.digit_value (slice_index line.now i) }
+    ensures value { result ≡ digit_value (slice_index line.now i) }
     ensures bound { result < 256 }
 {
-    at(line, i).saturating_sub(48) as usize
+    usize::from(at(line, i).saturating_sub(b'0'))
 }
 
 /// The kind that a line tells and, of a block, its length.
@@ -159,10 +87,10 @@ fn hex_at(line: &[u8], i: usize) -> u8
     ensures bound { result < 16 }
 {
     let c = at(line, i);
-    if 65 <= c {
+    if b'A' <= c {
         (c - 55) % 16
     } else {
-        c.saturating_sub(48) % 16
+        c.saturating_sub(b'0') % 16
     }
 }
 
@@ -176,6 +104,7 @@ fn byte_at(line: &[u8], i: usize) -> u8
 
 /// Copies the first `size` bytes of a line's block to the front of a buffer, where they fit and
 /// no block is longer; the other bytes of the buffer stay. Tells whether it did.
+#[tactic(auto, using(crate::proofs::Hex::copied_more))]
 pub fn copy_block(line: &[u8], size: usize, out: &mut [u8]) -> bool
     ensures told { result ≡ (nat_le size (length out.old) && nat_le size 256) }
     ensures bytes { out.new ≡ (if result then unhexed size (drop 50 line.now) ++ drop size out.old else out.old) }
@@ -183,8 +112,8 @@ pub fn copy_block(line: &[u8], size: usize, out: &mut [u8]) -> bool
     if size > out.len() || size > 256 {
         return false;
     }
-    for i in 0..size {
-        out[i] = byte_at(line, i);
+    for (i, b) in out[..size].iter_mut().enumerate() {
+        *b = byte_at(line, i);
     }
     true
 }

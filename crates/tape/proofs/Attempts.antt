@@ -40,18 +40,15 @@ module _ (c : Choice) (t : Tape) (buffer : List ℕ) where
       let out : Result Kind Fault × List ℕ × Tape = (Ok (kind_of i), filled buffer i, head_to t t.at (suc t.item)) in
       (λ j. (Ok (p j), q j, r j)) ∙ sym (ap (λ m. cond (not m && fits_in i buffer) (cond c.fails (Err Failed, buffer, failing t) out) (Err TurnedDown, buffer, t)) e ∙ ap (λ m. cond m (cond c.fails (Err Failed, buffer, failing t) out) (Err TurnedDown, buffer, t)) a ∙ ap (λ m. cond m (Err Failed, buffer, failing t) out) f)
 
-never_some : (k : Kind) → Some k ≡ None → ⊥
-never_some k e = let z : ◌≡◌ {A = ℕ} 0 1 = cc in omega arith
-
 -- what a look told of the next item
 pub next_there : (items : List Item) (n : ℕ) (k : Kind) → Some k ≡ option_map kind_of (first (drop n items)) → (n < length items) × (first (drop n items) ≡ Some (get_or items n mark)) × (kind_of (get_or items n mark) ≡ k)
-next_there [] zero k e = absurd (never_some k e)
-next_there [] (suc n) k e = absurd (never_some k e)
+next_there [] zero k e = absurd cc
+next_there [] (suc n) k e = absurd cc
 next_there (i ∷ is) zero k e = (omega arith, refl, cc)
 next_there (i ∷ is) (suc n) k e = let h = next_there is n k e in (omega (arith, h.0), h.1, h.2)
 
 pub none_there : (items : List Item) (n : ℕ) → None ≡ option_map kind_of (first (drop n items)) → first (drop n items) ≡ None
 none_there [] zero e = refl
 none_there [] (suc n) e = refl
-none_there (i ∷ is) zero e = absurd (never_some (kind_of i) (sym e))
+none_there (i ∷ is) zero e = absurd cc
 none_there (i ∷ is) (suc n) e = none_there is n e

@@ -107,8 +107,8 @@ look_keeps c t s = attempt_keeps c true t _ t s (λ _. s)
 
 -- where an item comes next, the head is not yet behind the last one
 first_inside : (is : List Item) (k : ℕ) (i : Item) → first (drop k is) ≡ Some i → k < length is
-first_inside [] zero i e = let z : ◌≡◌ {A = ℕ} 0 1 = cc in omega arith
-first_inside [] (suc k) i e = let z : ◌≡◌ {A = ℕ} 0 1 = cc in omega arith
+first_inside [] zero i e = absurd cc
+first_inside [] (suc k) i e = absurd cc
 first_inside (j ∷ is) zero i e = omega arith
 first_inside (j ∷ is) (suc k) i e = suc-le-suc (first_inside is k i e)
 

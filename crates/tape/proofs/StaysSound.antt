@@ -34,15 +34,3 @@ starts_sound tracks volumes some_track few_tracks some_volume few_volumes =
       head_item = zero-le;
       every_track = every_replicate tracks blank_track blank_is_sound;
     }
-
-size_bounds : (tracks volumes : ℕ) → lawful_size tracks volumes ≡ true → (1 ≤ tracks) × (tracks ≤ most_tracks) × (1 ≤ volumes) × (volumes ≤ most_volumes)
-size_bounds tracks volumes lawful =
-    let parts = and_parts (leb 1 tracks && leb tracks most_tracks) (leb 1 volumes && leb volumes most_volumes) lawful in
-    let of_tracks = and_parts (leb 1 tracks) (leb tracks most_tracks) parts.0 in
-    let of_volumes = and_parts (leb 1 volumes) (leb volumes most_volumes) parts.1 in
-    (leb-true 1 tracks of_tracks.0, leb-true tracks most_tracks of_tracks.1, leb-true 1 volumes of_volumes.0, leb-true volumes most_volumes of_volumes.1)
-
-pub lawful_starts_sound : (tracks volumes : ℕ) → lawful_size tracks volumes ≡ true → Sound (fresh tracks volumes)
-lawful_starts_sound tracks volumes lawful =
-    let size = size_bounds tracks volumes lawful in
-    starts_sound tracks volumes size.0 size.1 size.2 size.3

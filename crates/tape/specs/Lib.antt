@@ -1,5 +1,6 @@
 pub mod Items
 pub mod Refusals
+pub mod Faults
 pub mod Tape
 pub mod Sound
 pub mod Runs

@@ -1,11 +1,13 @@
 -- What a refusal tells: its number, its layer and its place. Assumes nothing.
-use Rattle.std.specs.Prelude.{ℕ}
+use Rattle.std.specs.Prelude.{ℕ, List, codes}
 use Rattle.tape.specs.declared.place.Place.{Place}
 use Rattle.tape.specs.declared.refusal.Reason.{Reason}
 use Rattle.tape.specs.declared.refusal.Reason.TheVariants.{BlockSize, Unlawful, ShortBuffer, Missing, MarkOutOfPlace, BlockOutOfPlace, BadLabel, LabelDisagrees, CountDisagrees, DoesNotFit, EmptyFile, NoRoomForFile, SectionFull, NoVolume, Ended, TransportFailed, VolumeAwaited, CatalogueFull}
 use Rattle.tape.specs.declared.refusal.Layer.{Layer}
 use Rattle.tape.specs.declared.refusal.Layer.TheVariants.{Transport, Label, Structure}
 use Rattle.tape.specs.declared.refusal.Refusal.{Refusal}
+use Rattle.tape.specs.declared.refusal.SetupError.{SetupError}
+use Rattle.tape.specs.declared.refusal.SetupError.TheVariants.{Refused, NoMemory}
 
 abbrev pub reason_number : Reason → ℕ
 reason_number BlockSize = 1
@@ -46,6 +48,16 @@ reason_layer Ended = Structure
 reason_layer TransportFailed = Transport
 reason_layer VolumeAwaited = Structure
 reason_layer CatalogueFull = Structure
+
+abbrev pub layer_name : Layer → List ℕ
+layer_name Transport = codes "transport"
+layer_name Label = codes "label"
+layer_name Structure = codes "structure"
+
+-- why a transport could not be made
+abbrev pub setup_words : SetupError → List ℕ
+setup_words (Refused r) = codes "a setting is out of its range"
+setup_words NoMemory = codes "no memory"
 
 -- the place where there is no transport
 abbrev pub no_place : Place

@@ -1,5 +1,5 @@
 //! Items: a tape mark, or a block of 1 to 256 bytes.
-ghost use Rattle.std.specs.Prelude.{◌≡◌};
+ghost use Rattle.std.specs.Prelude.{◌≡◌, is_some, unwrap_or};
 ghost use Rattle.tape.specs.Items.{item_of, proper, short};
 ghost use Rattle.tape.specs.Tape.{takes_item};
 
@@ -38,14 +38,13 @@ impl ItemRef<'_> {
         }
     }
 
-    /// Whether a track takes it that has met its marker or not, with `since` writes since.
-    pub fn is_taken(self, marked: bool, since: usize) -> bool
-        ensures { result ≡ takes_item marked since (item_of self.entry) }
+    /// Whether a track takes it that has not met its marker, or has taken `since` writes since.
+    pub fn is_taken(self, since: Option<usize>) -> bool
+        ensures { result ≡ takes_item (is_some since) (unwrap_or since 0) (item_of self.entry) }
     {
-        if marked {
-            self.is_proper() && since < 8 && self.is_short()
-        } else {
-            self.is_proper()
+        match since {
+            None => self.is_proper(),
+            Some(since) => self.is_proper() && since < 8 && self.is_short(),
         }
     }
 }

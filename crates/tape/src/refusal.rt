@@ -1,10 +1,12 @@
 //! Refusals: why, where, and by which layer.
-ghost use Rattle.std.specs.Prelude.{◌≡◌};
-ghost use Rattle.tape.specs.Refusals.{reason_number, reason_layer, nowhere};
+ghost use Rattle.std.specs.Prelude.{◌≡◌, Some};
+ghost use Rattle.tape.specs.Refusals.{reason_number, reason_layer, layer_name, setup_words, nowhere};
 ghost use Rattle.tape.specs.declared.refusal.SetupError.TheVariants.{NoMemory};
 
 use crate::place::Place;
 use std::alloc::AllocError;
+use std::error::Error;
+use std::fmt;
 
 /// Why a call was refused. Each reason has one number and one layer, which programs print.
 #[derive(Clone, Copy, PartialEq, Eq, Debug)]
@@ -55,6 +57,27 @@ pub enum Layer {
     Structure,
 }
 
+impl Layer {
+    /// The layer's name, which programs print.
+    pub fn name(self) -> &'static str
+        ensures { result.now ≡ layer_name self }
+    {
+        match self {
+            Layer::Transport => "transport",
+            Layer::Label => "label",
+            Layer::Structure => "structure",
+        }
+    }
+}
+
+impl fmt::Display for Layer {
+    ghost output = { λ layer. Some (layer_name layer) };
+
+    fn fmt<W: fmt::Write>(&self, f: &mut fmt::Formatter<W>) -> fmt::Result {
+        f.write_str(self.name())
+    }
+}
+
 /// A refusal: its reason, and the place it speaks of.
 #[derive(Clone, Copy, PartialEq, Eq, Debug)]
 pub struct Refusal {
@@ -76,6 +99,19 @@ impl From<AllocError> for SetupError {
         SetupError::NoMemory
     }
 }
+
+impl fmt::Display for SetupError {
+    ghost output = { λ e. Some (setup_words e) };
+
+    fn fmt<W: fmt::Write>(&self, f: &mut fmt::Formatter<W>) -> fmt::Result {
+        f.write_str(match self {
+            SetupError::Refused(_) => "a setting is out of its range",
+            SetupError::NoMemory => "no memory",
+        })
+    }
+}
+
+impl Error for SetupError {}
 
 impl Reason {
     /// The number by which users know the reason.
@@ -136,6 +172,7 @@ impl Reason {
 #[cfg(test)]
 mod tests {
     use super::*;
+    use std::test::Fail;
 
     const REASONS: [(Reason, u8, Layer); 18] = [
         (Reason::BlockSize, 1, Layer::Structure),
@@ -173,5 +210,28 @@ mod tests {
         assert_eq!(rt; refusal.place.volume, 0);
         assert_eq!(rt; refusal.place.track, 0);
         assert_eq!(rt; refusal.place.item, 0);
+    }
+
+    #[test]
+    fn layers_have_names(rt: HostRuntime) -> Result<(), Fail> {
+        for (layer, name) in [
+            (Layer::Transport, "transport"),
+            (Layer::Label, "label"),
+            (Layer::Structure, "structure"),
+        ] {
+            assert_eq!(rt; layer.name(), name);
+            let told = layer.to_string(rt.alloc())?;
+            assert_eq!(rt; told.as_str(), name);
+        }
+        Ok(())
+    }
+
+    #[test]
+    fn setup_errors_have_words(rt: HostRuntime) -> Result<(), Fail> {
+        let refused = SetupError::Refused(Reason::Unlawful.nowhere()).to_string(rt.alloc())?;
+        assert_eq!(rt; refused.as_str(), "a setting is out of its range");
+        let memory = SetupError::from(AllocError).to_string(rt.alloc())?;
+        assert_eq!(rt; memory.as_str(), "no memory");
+        Ok(())
     }
 }

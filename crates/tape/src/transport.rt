@@ -7,13 +7,16 @@
 //! that a function which applies fails. A function that cannot apply is turned down and changes
 //! nothing; a failure changes nothing but the failed state, and from then on every function but the
 //! questions is turned down.
-ghost use Rattle.std.specs.Prelude.{◌≡◌};
+ghost use Rattle.std.specs.Prelude.{◌≡◌, Some};
 ghost use Rattle.tape.specs.Items.{item_of};
 ghost use Rattle.tape.specs.Tape.{Tape, Does, write, next_track, mount, following, rewind, look, read, head_place, marker_met, any_items};
 ghost use Rattle.tape.specs.Sound.{Sound};
+ghost use Rattle.tape.specs.Faults.{fault_word};
 
 use crate::item::{ItemRef, Kind};
 use crate::place::Place;
+use std::error::Error;
+use std::fmt;
 
 /// Why a transport's function did not do its work.
 #[derive(Clone, Copy, PartialEq, Eq, Debug)]
@@ -23,6 +26,19 @@ pub enum Fault {
     /// the transport failed; what it had recorded stays
     Failed,
 }
+
+impl fmt::Display for Fault {
+    ghost output = { λ fault. Some (fault_word fault) };
+
+    fn fmt<W: fmt::Write>(&self, f: &mut fmt::Formatter<W>) -> fmt::Result {
+        f.write_str(match self {
+            Fault::TurnedDown => "down",
+            Fault::Failed => "failed",
+        })
+    }
+}
+
+impl Error for Fault {}
 
 pub trait Transport {
     /// The state that this transport stands for.
@@ -86,4 +102,19 @@ pub trait Transport {
 
     /// What every state keeps, so that code above need never be turned down.
     ghost sound: { (x : Self) → Sound (tape x) };
+}
+
+#[cfg(test)]
+mod tests {
+    use super::*;
+    use std::test::Fail;
+
+    #[test]
+    fn faults_have_words(rt: HostRuntime) -> Result<(), Fail> {
+        let down = Fault::TurnedDown.to_string(rt.alloc())?;
+        assert_eq!(rt; down.as_str(), "down");
+        let failed = Fault::Failed.to_string(rt.alloc())?;
+        assert_eq!(rt; failed.as_str(), "failed");
+        Ok(())
+    }
 }

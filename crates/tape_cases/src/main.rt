@@ -2,8 +2,9 @@
 //! may have.
 #![tactic(auto)]
 
+use std::io;
 use tape::bounds::is_size;
-use tape::refusal::{Layer, Reason};
+use tape::refusal::Reason;
 
 const REASONS: [Reason; 18] = [
     Reason::BlockSize,
@@ -37,46 +38,26 @@ const SIZES: [(usize, usize); 8] = [
     (2, 50),
 ];
 
-fn layer_word(layer: Layer) -> &'static str {
-    match layer {
-        Layer::Transport => "transport",
-        Layer::Label => "label",
-        Layer::Structure => "structure",
-    }
-}
-
-fn show_reason(rt: &HostRuntime, reason: Reason) -> anyhow::Result<()> {
-    let number = reason.number();
-    let layer = layer_word(reason.layer());
-    println!(rt; "refused={number:02} layer={layer}")?;
-    Ok(())
-}
-
-fn show_size(rt: &HostRuntime, tracks: usize, volumes: usize) -> anyhow::Result<()> {
-    let lawful = if is_size(tracks, volumes) {
-        "lawful"
-    } else {
-        "unlawful"
-    };
-    println!(rt; "tracks={tracks} volumes={volumes} {lawful}")?;
-    Ok(())
-}
-
-fn run(rt: &HostRuntime) -> anyhow::Result<()> {
+fn run(rt: &HostRuntime) -> io::Result<()> {
     for reason in REASONS {
-        show_reason(rt, reason)?;
+        println!(rt; "refused={:02} layer={}", reason.number(), reason.layer())?;
     }
     let place = Reason::Unlawful.nowhere().place;
-    let volume = place.volume;
-    let track = place.track;
-    let item = place.item;
-    println!(rt; "nowhere vol={volume} track={track} item={item}")?;
+    println!(rt;
+        "nowhere vol={} track={} item={}",
+        place.volume, place.track, place.item
+    )?;
     for (tracks, volumes) in SIZES {
-        show_size(rt, tracks, volumes)?;
+        let lawful = if is_size(tracks, volumes) {
+            "lawful"
+        } else {
+            "unlawful"
+        };
+        println!(rt; "tracks={tracks} volumes={volumes} {lawful}")?;
     }
     Ok(())
 }
 
-fn main(rt: HostRuntime) -> anyhow::Result<()> {
+fn main(rt: HostRuntime) -> io::Result<()> {
     run(&rt)
 }

@@ -1,86 +1,74 @@
 //! The commands that any transport can perform.
-use crate::words::{done, either, number, put_hex, show_bytes, show_kind, show_place, yes};
+use crate::words::{number, put_hex, show_bytes, show_kind, show_place};
+use case_words::answer::{found, moved, written, yes};
 use std::io;
 use tape::item::ItemRef;
 use tape::status::Status;
 use tape::transport::Transport;
 
-// A mark, as an item to be written.
-fn a_mark<'a>() -> ItemRef<'a> {
-    ItemRef::Mark
+/// A transport under trial, and where its answers go.
+#[derive(Drop)]
+pub(crate) struct Bench<'a, T> {
+    pub(crate) rt: &'a HostRuntime,
+    pub(crate) tape: T,
 }
 
-fn marks<T: Transport>(rt: &HostRuntime, tape: &mut T, count: &str) -> io::Result<()> {
-    let mut taken = 0usize;
-    let mut last = Ok(false);
-    for _ in 0..number(count) {
-        last = tape.write(a_mark());
-        if last.is_ok() {
-            taken = taken.saturating_add(1);
+impl<T: Transport> Bench<'_, T> {
+    fn marks(&mut self, count: &str) -> io::Result<()> {
+        let mut last = Ok(false);
+        let taken = (0..number(count))
+            .filter(|_| {
+                last = self.tape.write(ItemRef::Mark);
+                last.is_ok()
+            })
+            .count();
+        println!(self.rt; "{taken} {}", written(last))
+    }
+
+    // A block of the bytes given, or of so many times these.
+    fn block(&mut self, argument: &str) -> io::Result<()> {
+        let (hex, times) = argument.split_once('*').unwrap_or((argument, "1"));
+        let mut bytes = Vec::new(self.rt.alloc());
+        for _ in 0..number(times) {
+            put_hex(&mut bytes, hex);
         }
+        let answer = self.tape.write(ItemRef::Block(bytes.as_slice()));
+        self.rt.println(written(answer))
     }
-    let word = either(last, "marker", "taken");
-    println!(rt; "{taken} {word}")
-}
 
-// A block of the bytes given, or of so many times these.
-fn block<T: Transport>(rt: &HostRuntime, tape: &mut T, argument: &str) -> io::Result<()> {
-    let (hex, times) = argument.split_once('*').unwrap_or((argument, "1"));
-    let mut bytes = Vec::new(rt.alloc());
-    for _ in 0..number(times) {
-        put_hex(&mut bytes, hex);
+    // The buffer is filled beforehand, so that what a read leaves alone is seen to stay.
+    fn read(&mut self, size: &str) -> io::Result<()> {
+        let mut bytes = [0xEEu8; 300];
+        let buffer = &mut bytes[..number(size).min(300)];
+        let answer = self.tape.read(buffer).map(Some);
+        show_bytes(self.rt, buffer)?;
+        show_kind(self.rt, answer)
     }
-    let answer = tape.write(ItemRef::Block(bytes.as_slice()));
-    rt.println(either(answer, "marker", "taken"))
-}
 
-// The buffer is filled beforehand, so that what a read leaves alone is seen to stay.
-fn read<T: Transport>(rt: &HostRuntime, tape: &mut T, size: &str) -> io::Result<()> {
-    let mut bytes = [0xEEu8; 300];
-    let buffer = &mut bytes[0..number(size).min(300)];
-    let answer = match tape.read(buffer) {
-        Ok(kind) => Ok(Some(kind)),
-        Err(fault) => Err(fault),
-    };
-    show_bytes(rt, buffer)?;
-    show_kind(rt, answer)
-}
-
-fn ask<T: Transport>(rt: &HostRuntime, tape: &T) -> io::Result<()> {
-    let status = Status::of(tape);
-    show_place(rt, status.place)?;
-    let tracks = status.tracks;
-    let marked = yes(status.marked);
-    let failed = yes(status.failed);
-    let items = yes(status.recorded);
-    println!(rt; " tracks={tracks} marked={marked} failed={failed} items={items}")
-}
-
-// The commands that are answered in a word.
-fn word<T: Transport>(tape: &mut T, command: &str) -> &'static str {
-    match command {
-        "mark" => either(tape.write(a_mark()), "marker", "taken"),
-        "next" => done(tape.next_track()),
-        "mount" => done(tape.mount()),
-        "rewind" => done(tape.rewind()),
-        "following" => either(tape.following(), "there", "none"),
-        _ => "no such command",
+    fn ask(&self) -> io::Result<()> {
+        let status = Status::of(&self.tape);
+        show_place(self.rt, status.place)?;
+        let tracks = status.tracks;
+        let marked = yes(status.marked);
+        let failed = yes(status.failed);
+        let items = yes(status.recorded);
+        println!(self.rt; " tracks={tracks} marked={marked} failed={failed} items={items}")
     }
-}
 
-/// Performs a command on any transport.
-pub(crate) fn perform<T: Transport>(
-    rt: &HostRuntime,
-    tape: &mut T,
-    command: &str,
-    argument: &str,
-) -> io::Result<()> {
-    match command {
-        "marks" => marks(rt, tape, argument),
-        "block" => block(rt, tape, argument),
-        "look" => show_kind(rt, tape.look()),
-        "read" => read(rt, tape, argument),
-        "ask" => ask(rt, tape),
-        _ => rt.println(word(tape, command)),
+    /// Performs a command.
+    pub(crate) fn perform(&mut self, command: &str, argument: &str) -> io::Result<()> {
+        match command {
+            "mark" => self.rt.println(written(self.tape.write(ItemRef::Mark))),
+            "marks" => self.marks(argument),
+            "block" => self.block(argument),
+            "next" => self.rt.println(moved(self.tape.next_track())),
+            "mount" => self.rt.println(moved(self.tape.mount())),
+            "rewind" => self.rt.println(moved(self.tape.rewind())),
+            "following" => self.rt.println(found(self.tape.following())),
+            "look" => show_kind(self.rt, self.tape.look()),
+            "read" => self.read(argument),
+            "ask" => self.ask(),
+            _ => self.rt.println("no such command"),
+        }
     }
 }

@@ -42,27 +42,24 @@ mod bench;
 mod own;
 mod words;
 
+use crate::bench::Bench;
 use line::line_transport::LineTransport;
 use std::io;
 use std::io::Read;
 
 // Performs a script. The lines of a recorded text are gathered, and taken at the one with a dot.
-fn play(
-    rt: &HostRuntime,
-    line: &mut LineTransport,
-    recorded: &mut Vec<u8>,
-    script: &str,
-) -> io::Result<()> {
-    let mut taking = false;
+fn play(bench: &mut Bench<'_, LineTransport>, script: &str) -> io::Result<()> {
+    let mut recorded = None;
     for given in script.split_terminator('\n') {
-        if !taking {
-            taking = given == "take";
-            own::step(rt, line, given)?;
-        } else if given.starts_with('.') {
-            taking = false;
-            own::take(rt, line, recorded, given)?;
-        } else {
-            own::gather(recorded, given);
+        match recorded.take() {
+            Some(text) if given.starts_with('.') => bench.take(text, given)?,
+            Some(text) => recorded = Some(own::with_line(text, given)),
+            None => {
+                if given == "take" {
+                    recorded = Some(Vec::new(bench.rt.alloc()));
+                }
+                bench.step(given)?;
+            }
         }
     }
     Ok(())
@@ -72,8 +69,8 @@ fn run(rt: &HostRuntime) -> io::Result<()> {
     let mut script = String::new(rt.alloc());
     rt.stdin().read_to_string(&mut script)?;
     match LineTransport::new(rt.alloc(), own::settings("")) {
-        Ok(mut line) => play(rt, &mut line, &mut Vec::new(rt.alloc()), script.as_str()),
-        Err(_) => rt.println("no memory"),
+        Ok(tape) => play(&mut Bench { rt, tape }, script.as_str()),
+        Err(error) => rt.println(error),
     }
 }
 

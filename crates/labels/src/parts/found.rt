@@ -1,13 +1,14 @@
 //! The parts are found in a block by their places.
 ghost use Rattle.std.specs.Prelude.{◌≡◌};
-ghost use Rattle.labels.specs.Reading.{told_parts, found_parts};
+ghost use Rattle.std.specs.Option.{option_map};
+ghost use Rattle.labels.specs.Reading.{held, found_parts};
 
 use crate::parts::Parts;
 
 impl<'a> Parts<'a> {
     /// The parts of the bytes behind a label's kind, where there are 31.
     pub(crate) fn of(rest: &'a [u8]) -> Option<Parts<'a>>
-        ensures { told_parts result ≡ found_parts rest.now }
+        ensures { option_map held result ≡ found_parts rest.now }
     {
         let (volume, rest) = rest.split_first_chunk()?;
         let (file, rest) = rest.split_first_chunk()?;

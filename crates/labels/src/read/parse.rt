@@ -1,7 +1,8 @@
 //! Reading a label from a block.
 ghost use Rattle.std.specs.Prelude.{◌≡◌};
-ghost use Rattle.labels.specs.Reading.{held, told_by, told, reading};
+ghost use Rattle.labels.specs.Reading.{held, told_by, told, contents_of, reading};
 
+use crate::contents::Contents;
 use crate::kind::LabelKind;
 use crate::parts::Parts;
 use crate::read::LabelRef;
@@ -37,10 +38,24 @@ impl<'a> LabelRef<'a> {
         ensures { held result ≡ (told_by self.now).1 }
     {
         match *self {
-            LabelRef::Hdr(parts) => parts,
-            LabelRef::Etr(parts) => parts,
-            LabelRef::Eov(parts) => parts,
-            LabelRef::Eof(parts) => parts,
+            LabelRef::Hdr(parts)
+            | LabelRef::Etr(parts)
+            | LabelRef::Eov(parts)
+            | LabelRef::Eof(parts) => parts,
+        }
+    }
+
+    /// What the label says, copied out of the block.
+    pub fn contents(&self) -> Contents
+        ensures { result ≡ contents_of (told_by self.now) }
+    {
+        let parts = self.parts();
+        Contents {
+            kind: self.kind(),
+            volume: parts.volume(),
+            fields: parts.fields(),
+            section: parts.section(),
+            count: parts.count(),
         }
     }
 }
@@ -49,15 +64,9 @@ impl<'a> LabelRef<'a> {
 pub fn parse(block: &[u8]) -> Result<LabelRef<'_>, Reason>
     ensures { told result ≡ reading block.now }
 {
-    let [first, rest @ ..] = block else {
-        return Err(Reason::BadLabel);
-    };
-    let Some(kind) = LabelKind::from_character(*first) else {
-        return Err(Reason::BadLabel);
-    };
-    let Some(parts) = Parts::of(rest) else {
-        return Err(Reason::BadLabel);
-    };
+    let (first, rest) = block.split_first().ok_or(Reason::BadLabel)?;
+    let kind = LabelKind::try_from(*first)?;
+    let parts = Parts::of(rest).ok_or(Reason::BadLabel)?;
     if parts.are_lawful() && kind.allows(parts.count()) {
         Ok(labelled(kind, parts))
     } else {

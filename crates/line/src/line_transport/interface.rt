@@ -1,7 +1,7 @@
 //! The line transport as a transport. Beyond the interface it promises which write meets a track's
 //! marker, that a write fails exactly where its line does not fit the text, and that nothing else
 //! ever fails.
-ghost use Rattle.std.specs.Prelude.{◌≡◌};
+ghost use Rattle.std.specs.Prelude.{◌≡◌, true, false, ◌⊎◌, MatchResult};
 ghost use Rattle.tape.specs.Items.{item_of};
 ghost use Rattle.tape.specs.Tape.{Does, Exactly, write, next_track, mount, following, rewind, look, read, head_place, marker_met, any_items};
 ghost use Rattle.line.specs.Meaning.{line_tape, line_choice, settings_of, sure};
@@ -13,6 +13,18 @@ use tape::item::{ItemRef, Kind};
 use tape::place::Place;
 use tape::transport::{Fault, Transport};
 
+impl LineTransport {
+    // A function goes on only where it applies, here and in a transport that has not failed.
+    fn applies(&self, here: bool) -> Result<(), Fault>
+        ensures { MatchResult result (λ _. (self.now.failed ≡ false) × (here ≡ true)) (λ fault. (fault ≡ Fault.TurnedDown) × ((self.now.failed ≡ true) ⊎ (here ≡ false))) }
+    {
+        if self.failed || !here {
+            return Err(Fault::TurnedDown);
+        }
+        Ok(())
+    }
+}
+
 impl Transport for LineTransport {
     ghost tape = { line_tape };
 
@@ -23,12 +35,7 @@ impl Transport for LineTransport {
         ensures exact { Exactly (write (line_choice self.old (item_of item.entry)) (line_tape self.old) (item_of item.entry)) (result, line_tape self.new) }
         ensures settings { settings_of self.new ≡ settings_of self.old }
     {
-        if self.failed {
-            return Err(Fault::TurnedDown);
-        }
-        if !self.can_record(item) {
-            return Err(Fault::TurnedDown);
-        }
+        self.applies(self.can_record(item))?;
         if !self.has_room(item) {
             self.failed = true;
             return Err(Fault::Failed);
@@ -41,13 +48,8 @@ impl Transport for LineTransport {
         ensures exact { Exactly (next_track sure (line_tape self.old)) (result, line_tape self.new) }
         ensures settings { settings_of self.new ≡ settings_of self.old }
     {
-        if self.failed {
-            return Err(Fault::TurnedDown);
-        }
-        if !self.has_next_track() {
-            return Err(Fault::TurnedDown);
-        }
-        self.head_to_track(self.at + 1);
+        self.applies(self.has_next_track())?;
+        self.head_to_track(self.head.at + 1);
         Ok(())
     }
 
@@ -56,24 +58,18 @@ impl Transport for LineTransport {
         ensures exact { Exactly (mount sure (line_tape self.old)) (result, line_tape self.new) }
         ensures settings { settings_of self.new ≡ settings_of self.old }
     {
-        if self.failed {
-            return Err(Fault::TurnedDown);
-        }
-        if !self.can_mount() {
-            return Err(Fault::TurnedDown);
-        }
+        self.applies(self.can_mount())?;
         self.add_volume();
         Ok(())
     }
 
+    #[tactic(auto, using(crate::proofs::Facts::all_there))]
     fn following(&mut self) -> Result<bool, Fault>
         ensures does { Does (λ c. following c (line_tape self.old)) (result, line_tape self.new) }
         ensures exact { Exactly (following sure (line_tape self.old)) (result, line_tape self.new) }
         ensures settings { settings_of self.new ≡ settings_of self.old }
     {
-        if self.failed {
-            return Err(Fault::TurnedDown);
-        }
+        self.applies(true)?;
         let next = self.next_volume();
         if next >= self.spans.len() {
             return Ok(false);
@@ -87,9 +83,7 @@ impl Transport for LineTransport {
         ensures exact { Exactly (rewind sure (line_tape self.old)) (result, line_tape self.new) }
         ensures settings { settings_of self.new ≡ settings_of self.old }
     {
-        if self.failed {
-            return Err(Fault::TurnedDown);
-        }
+        self.applies(true)?;
         self.head_to_track(0);
         Ok(())
     }
@@ -99,9 +93,7 @@ impl Transport for LineTransport {
         ensures exact { Exactly (look sure (line_tape self.old)) (result, line_tape self.new) }
         ensures settings { settings_of self.new ≡ settings_of self.old }
     {
-        if self.failed {
-            return Err(Fault::TurnedDown);
-        }
+        self.applies(true)?;
         Ok(self.next_kind())
     }
 
@@ -110,41 +102,41 @@ impl Transport for LineTransport {
         ensures exact { Exactly (read sure (line_tape self.old) buffer.old) (result, buffer.new, line_tape self.new) }
         ensures settings { settings_of self.new ≡ settings_of self.old }
     {
-        if self.failed {
-            return Err(Fault::TurnedDown);
-        }
-        let Some(kind) = self.next_kind() else {
-            return Err(Fault::TurnedDown);
-        };
+        self.applies(true)?;
+        let kind = self.next_kind().ok_or(Fault::TurnedDown)?;
         match kind {
             Kind::Mark => self.pass(36),
             Kind::Block(size) => {
-                if !self.copy_bytes(size, buffer) {
-                    return Err(Fault::TurnedDown);
-                }
+                self.applies(self.copy_bytes(size, buffer))?;
                 self.pass(block_line(size));
             }
         }
         Ok(kind)
     }
 
+    // The questions never fail, and change nothing.
     fn place(&self) -> Place {
-        self.head_place()
+        Place {
+            volume: self.head.at / self.settings.tracks + 1,
+            track: self.head.at % self.settings.tracks + 1,
+            item: self.head.item + 1,
+        }
     }
 
     fn tracks(&self) -> usize {
-        self.tracks
+        self.settings.tracks
     }
 
     fn marked(&self) -> bool {
-        self.head_marked()
+        self.span(self.head.at).marked()
     }
 
     fn failed(&self) -> bool {
         self.failed
     }
 
+    #[tactic(auto, using(crate::proofs::Facts::any_of))]
     fn has_items(&self) -> bool {
-        self.any_items()
+        0 < self.span(self.last).count
     }
 }

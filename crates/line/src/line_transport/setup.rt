@@ -4,8 +4,9 @@ ghost use Rattle.tape.specs.Tape.{Exactly, fresh};
 ghost use Rattle.line_text.specs.Layout.{text_of};
 ghost use Rattle.line.specs.Meaning.{line_tape, settings_of};
 ghost use Rattle.line.specs.Setup.{Made, sought};
+ghost use Rattle.line.specs.Steps.{Becomes};
 
-use super::LineTransport;
+use super::{Head, LineTransport};
 use crate::settings::Settings;
 use crate::text::put_blanks;
 use std::alloc::Global;
@@ -25,14 +26,9 @@ impl LineTransport {
         Ok(LineTransport {
             text,
             spans,
-            tracks: settings.tracks,
-            volumes: settings.volumes,
-            marker: settings.marker,
-            room: settings.room,
+            settings,
             left: settings.volumes - 1,
-            at: 0,
-            item: 0,
-            pos: 0,
+            head: Head::start_of(0, 0),
             last: 0,
             failed: false,
         })
@@ -40,18 +36,15 @@ impl LineTransport {
 
     // Blank again, as it was made.
     pub(super) fn erase(&mut self)
-        ensures tape { line_tape self.new ≡ fresh self.old.tracks self.old.volumes }
+        ensures becomes { Becomes self.old self.new (fresh self.old.settings.tracks self.old.settings.volumes) }
         ensures text { self.new.text.items ≡ [] }
-        ensures last { self.new.last ≡ self.new.at }
-        ensures settings { settings_of self.new ≡ settings_of self.old }
+        ensures last { self.new.last ≡ self.new.head.at }
     {
         self.text.clear();
         self.spans.clear();
-        put_blanks(&mut self.spans, self.tracks);
-        self.left = self.volumes - 1;
-        self.at = 0;
-        self.item = 0;
-        self.pos = 0;
+        put_blanks(&mut self.spans, self.settings.tracks);
+        self.left = self.settings.volumes - 1;
+        self.head = Head::start_of(0, 0);
         self.last = 0;
         self.failed = false;
     }

@@ -1,81 +1,80 @@
 //! A recorded text is taken, line by line.
-ghost use Rattle.std.specs.Prelude.{◌≡◌, ◌+◌, ◌≤◌, true, ◌&&◌, ◌++◌, length, take, drop, OnOk};
+ghost use Rattle.std.specs.Prelude.{◌≡◌, true, ◌&&◌, length, take, drop, MatchOption, OnOk};
 ghost use Rattle.std.specs.Str.{bytes_eq};
 ghost use Rattle.tape.specs.Items.{block, item_of, proper};
 ghost use Rattle.tape.specs.Tape.{Exactly};
 ghost use Rattle.line_text.specs.Lines.{item_in, unhexed};
 ghost use Rattle.line_text.specs.Layout.{text_of};
 ghost use Rattle.line.specs.Meaning.{line_tape, settings_of};
-ghost use Rattle.line.specs.Taken.{track_named, goes_on, laid, line_on, lawful_line, taken, outcome};
+ghost use Rattle.line.specs.Taken.{track_named, goes_on, lawful_line, is_own_line, rewound, taken, outcome};
+ghost use Rattle.line.specs.Steps.{Awaits, Took};
 
 use super::LineTransport;
-use crate::text::{a_mark, begins, rest_of};
 use line_text::lines::{copy_block, fits, kind_of_line};
 use tape::item::{ItemRef, Kind};
 use tape::refusal::{Reason, Refusal};
 
 impl LineTransport {
-    // The item is laid on its track, and its line compared with the one that told it. Where they
-    // differ nothing is said of what is laid: the text is refused, and all is erased.
-    fn take_item(&mut self, line: &[u8], k: usize, item: ItemRef<'_>) -> bool
-        requires goes { goes_on self.old.volumes (line_tape self.old) k ≡ true }
-        requires last { self.old.last ≡ self.old.at }
+    // The item is laid on its track, and its line compared with the one that told it.
+    fn take_item(&mut self, line: &[u8], k: usize, item: ItemRef<'_>) -> Option<()>
+        requires goes { goes_on self.old.settings.volumes (line_tape self.old) k ≡ true }
+        requires awaits { Awaits self.old line.now }
         requires item { proper (item_of item) ≡ true }
-        requires room { length self.old.text.items + length line.now ≤ self.old.room }
-        ensures told { result ≡ bytes_eq (take (length (line_on (line_tape self.old) k (item_of item.entry))) line.now) (line_on (line_tape self.old) k (item_of item.entry)) }
-        ensures tape { result ≡ true → line_tape self.new ≡ laid self.old.volumes (line_tape self.old) k (item_of item.entry) }
-        ensures text { result ≡ true → self.new.text.items ≡ self.old.text.items ++ line_on (line_tape self.old) k (item_of item.entry) }
-        ensures last { result ≡ true → self.new.last ≡ self.new.at }
-        ensures settings { settings_of self.new ≡ settings_of self.old }
+        ensures { Took self.old self.new (is_own_line (line_tape self.old) k (item_of item.entry) line.now) k (item_of item.entry) result }
     {
         if !fits(item, line.len()) {
-            return false;
+            return None;
         }
         self.grow_to(k);
         let end = self.text.len();
-        self.lay(k, item);
-        begins(line, rest_of(self.text.as_slice(), end))
+        let span = self.span(k).with_one_recorded(end);
+        self.put_item(k, item, span);
+        line.starts_with(&self.text[end..]).then_some(())
     }
 
     // A line that tells a block of this size.
-    fn take_block(&mut self, line: &[u8], k: usize, size: usize) -> bool
-        requires goes { goes_on self.old.volumes (line_tape self.old) k ≡ true }
-        requires last { self.old.last ≡ self.old.at }
-        requires room { length self.old.text.items + length line.now ≤ self.old.room }
-        ensures told { result ≡ (proper (block (unhexed size (drop 50 line.now))) && bytes_eq (take (length (line_on (line_tape self.old) k (block (unhexed size (drop 50 line.now))))) line.now) (line_on (line_tape self.old) k (block (unhexed size (drop 50 line.now))))) }
-        ensures tape { result ≡ true → line_tape self.new ≡ laid self.old.volumes (line_tape self.old) k (block (unhexed size (drop 50 line.now))) }
-        ensures text { result ≡ true → self.new.text.items ≡ self.old.text.items ++ line_on (line_tape self.old) k (block (unhexed size (drop 50 line.now))) }
-        ensures last { result ≡ true → self.new.last ≡ self.new.at }
-        ensures settings { settings_of self.new ≡ settings_of self.old }
+    fn take_block(&mut self, line: &[u8], k: usize, size: usize) -> Option<()>
+        requires goes { goes_on self.old.settings.volumes (line_tape self.old) k ≡ true }
+        requires awaits { Awaits self.old line.now }
+        ensures { let told = block (unhexed size (drop 50 line.now)) in Took self.old self.new (proper told && is_own_line (line_tape self.old) k told line.now) k told result }
     {
         let mut bytes = [0u8; 256];
-        if size == 0 {
-            return false;
+        if size == 0 || !copy_block(line, size, &mut bytes) {
+            return None;
         }
-        if !copy_block(line, size, &mut bytes) {
-            return false;
-        }
-        self.take_item(line, k, ItemRef::Block(&bytes[0..size]))
+        self.take_item(line, k, ItemRef::Block(&bytes[..size]))
     }
 
     // One line of a recorded text.
-    fn take_line(&mut self, line: &[u8]) -> bool
-        requires last { self.old.last ≡ self.old.at }
-        requires room { length self.old.text.items + length line.now ≤ self.old.room }
-        ensures told { result ≡ lawful_line self.old.volumes (line_tape self.old) line.now }
-        ensures tape { result ≡ true → line_tape self.new ≡ laid self.old.volumes (line_tape self.old) (track_named self.old.tracks line.now) (item_in line.now) }
-        ensures text { result ≡ true → self.new.text.items ≡ self.old.text.items ++ line_on (line_tape self.old) (track_named self.old.tracks line.now) (item_in line.now) }
-        ensures last { result ≡ true → self.new.last ≡ self.new.at }
-        ensures settings { settings_of self.new ≡ settings_of self.old }
+    fn take_line(&mut self, line: &[u8]) -> Option<()>
+        requires { Awaits self.old line.now }
+        ensures { Took self.old self.new (lawful_line self.old.settings.volumes (line_tape self.old) line.now) (track_named self.old.settings.tracks line.now) (item_in line.now) result }
     {
         let k = self.named_track(line);
         if !self.goes_on(k) {
-            return false;
+            return None;
         }
         match kind_of_line(line) {
-            Kind::Mark => self.take_item(line, k, a_mark()),
+            Kind::Mark => self.take_item(line, k, ItemRef::Mark),
             Kind::Block(size) => self.take_block(line, k, size),
         }
+    }
+
+    // A recorded text in place of what was there, with the head behind its last line.
+    fn take_lines(&mut self, source: &[u8]) -> Option<()>
+        ensures tape { MatchOption result (taken (settings_of self.old) source.now ≡ None) (λ _. taken (settings_of self.old) source.now ≡ rewound (Some (line_tape self.new))) }
+        ensures text { MatchOption result (Unit {0}) (λ _. text_of (line_tape self.new) ≡ source.now) }
+        ensures settings { settings_of self.new ≡ settings_of self.old }
+    {
+        self.erase();
+        if source.len() > self.settings.room {
+            return None;
+        }
+        while self.text.len() < source.len() {
+            let from = self.text.len();
+            self.take_line(&source[from..])?;
+        }
+        Some(())
     }
 
     /// Takes a recorded text to be read, in place of what was there; the head goes to the first item.
@@ -86,17 +85,9 @@ impl LineTransport {
         ensures text { OnOk result (text_of (line_tape self.new) ≡ source.now) }
         ensures settings { settings_of self.new ≡ settings_of self.old }
     {
-        self.erase();
-        if source.len() > self.room {
+        if self.take_lines(source).is_none() {
+            self.erase();
             return Err(Reason::Unlawful.nowhere());
-        }
-        let mut from = 0;
-        while from < source.len() {
-            if !self.take_line(rest_of(source, from)) {
-                self.erase();
-                return Err(Reason::Unlawful.nowhere());
-            }
-            from = self.text.len();
         }
         self.head_to_track(0);
         Ok(())

@@ -1,47 +1,41 @@
-use Rattle.std.proofs.Common.{◌≡◌, ◌-◌, false, ◌++◌, length, replicate, vec_items, refl, ap, ◌∙◌, arith}
-use Rattle.line_text.specs.Layout.{blank_span}
+use Rattle.std.proofs.Common.{◌-◌, false, ◌++◌, length, replicate, vec_items, sym, refl, ap, ◌∙◌, subst, arith}
+use Rattle.line_text.specs.Layout.{HeadInside, HeadPlaced, blank_span}
+use Rattle.line.specs.declared.line_transport.Head.{Head}
 use Rattle.line.proofs.Longer.{all_tracks, some_volume}
-use Rattle.line.proofs.Fresh.{laid_fresh, sound_fresh, behind_fresh, there_fresh, head_fresh, reached_fresh, unmarked_fresh, whole_fresh, volumes_fresh, room_fresh, image_fresh}
+use Rattle.line.proofs.Fresh.{Blank, all_blank}
 use Rattle.line.proofs.line_transport.LineTransport.erase.Goals as goal
 use Rattle.line.proofs.line_transport.LineTransport.erase.Goals.{After-put_blanks}
 
-volume : (c : After-put_blanks) → vec_items c.put_blanks.new.spans ≡ replicate c.args.self.now.tracks blank_span
-volume c = c.put_blanks.ensures.items ∙ ap (λ l. l ++ replicate c.args.self.now.tracks blank_span) c.clear-2.ensures.items
+blank : (c : After-put_blanks) → let x = c.args.self.now in Blank x.settings.tracks x.settings.volumes x.settings.marker (vec_items c.clear.new.self) (vec_items c.put_blanks.new.spans)
+blank c =
+    let x = c.args.self.now in
+    all_blank _ _ _ _ _ c.clear.ensures.items (c.put_blanks.ensures.items ∙ ap (λ l. l ++ replicate x.settings.tracks blank_span) c.clear-2.ensures.items) x.bounds.0 (some_volume x) x.foil.0
 
 pub invariant_of-self : goal.invariant_of-self
 invariant_of-self c =
     let x = c.args.self.now in
-    let t = vec_items c.clear.new.self in
-    let s = vec_items c.put_blanks.new.spans in
-    let e = c.clear.ensures.items in
-    let v = volume (goal.at.invariant_of-self c).After-put_blanks in
-    let o = x.bounds.0 in
-    let laid = laid_fresh x.tracks t s e v o in
-    let head = head_fresh x.tracks t s e v o in
-    let one = some_volume x in
+    let spans = vec_items c.put_blanks.new.spans in
+    let b = blank (goal.at.invariant_of-self c).After-put_blanks in
+    let first = sym c.start_of-self.ensures in
     record {
-      whole = laid.whole;
-      placed = laid.placed;
-      propers = laid.propers;
-      sound = sound_fresh x.tracks t s e v o;
-      ending = head.0;
-      behind = behind_fresh x.tracks t s e v o;
-      there = there_fresh x.tracks t s e v o;
-      head = head;
-      reached = reached_fresh x.tracks t s e v o;
-      unmarked = unmarked_fresh x.tracks t s e v o x.marker x.foil.0;
-      bounds = (o, x.bounds.1, whole_fresh x.tracks t s e v o, volumes_fresh x.tracks t s e v o x.volumes one, x.bounds.4);
-      memory = (omega (arith, x.memory.0, c.clear.ensures.capacity), omega (arith, ap length e), omega (arith, room_fresh x.tracks t s e v o x.volumes one, all_tracks x, x.memory.2, c.clear-2.ensures.capacity, c.put_blanks.ensures.capacity));
+      whole = b.laid.whole;
+      placed = b.laid.placed;
+      propers = b.laid.propers;
+      sound = b.sound;
+      ending = b.head.0;
+      behind = b.behind;
+      there = b.there;
+      inside = subst (λ (h : Head). HeadInside spans h.at h.item) first b.head;
+      reached = subst (λ (h : Head). HeadPlaced x.settings.tracks (vec_items c.clear.new.self) spans h.at h.item h.pos) first b.reached;
+      unmarked = b.unmarked;
+      bounds = (x.bounds.0, x.bounds.1, b.whole, b.volumes, x.bounds.4);
+      memory = (omega (arith, x.memory.0, c.clear.ensures.capacity), omega (arith, ap length c.clear.ensures.items), omega (arith, b.room, all_tracks x, x.memory.2, c.clear-2.ensures.capacity, c.put_blanks.ensures.capacity));
       foil = x.foil;
     }
 
-pub returns : goal.returns
-returns c =
+pub returns-clause-becomes : goal.returns-clause-becomes
+returns-clause-becomes c =
     let x = c.args.self.now in
-    let image = image_fresh x.tracks (vec_items c.clear.new.self) (vec_items c.put_blanks.new.spans) c.clear.ensures.items (volume (goal.at.returns c).After-put_blanks) x.bounds.0 in
-    record {
-      tape = λ i. record { tracks = x.tracks; image = image i; at = 0; item = 0; left = x.volumes - 1; failed = false };
-      text = c.clear.ensures.items;
-      last = refl;
-      settings = refl;
-    }
+    let b = blank (goal.at.returns-clause-becomes c).After-put_blanks in
+    let head = c.start_of-self.ensures in
+    record { tape = λ i. record { tracks = x.settings.tracks; image = b.image i; at = (head i).at; item = (head i).item; left = x.settings.volumes - 1; failed = false }; settings = refl }

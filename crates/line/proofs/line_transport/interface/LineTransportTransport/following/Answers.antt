@@ -1,36 +1,30 @@
-use Rattle.std.proofs.Common.{◌≡◌, true, false, cond, ltb, length, vec_items, sym, refl, ap, ◌∙◌, inl, arith, le-ltb, lt-ltb}
-use lib.ListN.{length-map}
-use Rattle.std.proofs.iter.Next.{first_way, second_way}
-use Rattle.tape.specs.Tape.{next_volume, head_to}
-use Rattle.tape.proofs.Attempts.{turned_down, done}
-use Rattle.line_text.specs.Layout.{track_of}
+use Rattle.std.proofs.Common.{◌≡◌, true, cond, Ok, ltb, length, sym, refl, ap, ◌∙◌, arith, lt-ltb, rules}
+use Rattle.std.proofs.iter.Next.{first_way}
+use Rattle.tape.specs.Tape.{following, next_volume, head_to}
+use Rattle.tape.proofs.Attempts.{done}
+use Rattle.std.proofs.lemmas.Grind.{common_steps}
 use Rattle.line.specs.Meaning.{line_tape, sure}
+use Rattle.line.proofs.Facts.{all_there}
 use Rattle.line.proofs.line_transport.interface.LineTransportTransport.following.Goals as goal
+use Rattle.line.proofs.line_transport.interface.LineTransportTransport.following.Goals.{After-head_to_track}
 
-pub returns-then-self : goal.returns-then-self
-returns-then-self c =
-    let t = line_tape c.args.self.now in
-    let there = ltb (next_volume t) (length t.image) in
-    let e = turned_down sure true t there (cond there (head_to t (next_volume t) 0) t) (inl c.if-self.true) in
-    record { does = (sure, e); exact = e; settings = refl }
+pub returns-in_err-applies-clause-does : goal.returns-in_err-applies-clause-does
+returns-in_err-applies-clause-does c = (sure, search rules)
 
-pub returns-then-next-len : goal.returns-then-next-len
-returns-then-next-len c =
+pub returns-then-next-len-clause-does : goal.returns-then-next-len-clause-does
+returns-then-next-len-clause-does c = (sure, grind (arith, common_steps, all_there))
+
+-- the next volume is there, and the head goes to it
+moved : (c : After-head_to_track) → (Ok true, line_tape c.head_to_track.new.self) ≡ following sure (line_tape c.args.self.now)
+moved c =
     let x = c.args.self.now in
     let t = line_tape x in
     let there = ltb (next_volume t) (length t.image) in
-    let past : there ≡ false = le-ltb (next_volume t) (length t.image) (omega (arith, length-map (vec_items x.spans) (track_of (vec_items x.text)), c.next_volume-next.ensures, c.len.ensures, x.spans.ok.0, c.if-next-len.true)) in
-    let e = done sure true t there (cond there (head_to t (next_volume t) 0) t) false t c.if-self.false refl refl (sym past) (second_way (head_to t (next_volume t) 0) t past refl) in
-    record { does = (sure, e); exact = e; settings = refl }
+    let inside : there ≡ true = lt-ltb (next_volume t) (length t.image) (omega (arith, all_there x, c.next_volume-next.ensures, c.len.ensures, x.spans.ok.0, c.if-next-len.false)) in
+    done sure true t there (cond there (head_to t (next_volume t) 0) t) true (line_tape c.head_to_track.new.self) c.in_ok-applies.ensures.0 refl refl (sym inside) (first_way (head_to t (next_volume t) 0) t inside (c.head_to_track.ensures.tape ∙ ap (λ k. head_to t k 0) c.next_volume-next.ensures))
 
-pub head_to_track-requires : goal.head_to_track-requires
-head_to_track-requires c = omega (arith, c.len.ensures, c.args.self.now.spans.ok.0, c.if-next-len.false)
+pub returns-clause-does : goal.returns-clause-does
+returns-clause-does c = (sure, moved c)
 
-pub returns : goal.returns
-returns c =
-    let x = c.args.self.now in
-    let t = line_tape x in
-    let there = ltb (next_volume t) (length t.image) in
-    let inside : there ≡ true = lt-ltb (next_volume t) (length t.image) (omega (arith, length-map (vec_items x.spans) (track_of (vec_items x.text)), c.next_volume-next.ensures, c.len.ensures, x.spans.ok.0, c.if-next-len.false)) in
-    let e = done sure true t there (cond there (head_to t (next_volume t) 0) t) true (line_tape c.head_to_track.new.self) c.if-self.false refl refl (sym inside) (first_way (head_to t (next_volume t) 0) t inside (c.head_to_track.ensures.tape ∙ ap (λ k. head_to t k 0) c.next_volume-next.ensures)) in
-    record { does = (sure, e); exact = e; settings = c.head_to_track.ensures.settings }
+pub returns-clause-exact : goal.returns-clause-exact
+returns-clause-exact c = moved c
