@@ -2,7 +2,7 @@
 #![tactic(auto)]
 
 use inspection::account::account;
-use std::io::Write;
+use std::io::{self, Write};
 
 // The name of a case, the tracks of its volumes, and its text.
 const CASES: [(&str, usize, &[u8]); 6] = [
@@ -30,11 +30,11 @@ const CASES: [(&str, usize, &[u8]); 6] = [
     ),
 ];
 
-fn run(rt: &HostRuntime) -> anyhow::Result<()> {
+fn run(rt: &(impl Print + AllocGlobal)) -> anyhow::Result<()> {
     for (name, tracks, text) in CASES {
         println!(rt; "{name}")?;
         let told = account(rt.alloc(), tracks, text)?;
-        rt.stdout().write_all(told.as_slice())?;
+        io::writer(rt).write_all(told.as_slice())?;
     }
     Ok(())
 }

@@ -1,5 +1,7 @@
 -- The words for what a transport answers. Assumes nothing.
-use Rattle.std.specs.Prelude.{ℕ, Bool, true, false, List, Result, Ok, Err, codes}
+use Rattle.std.specs.Prelude.{ℕ, Bool, true, false, List, ◌++◌, Result, Ok, Err, codes}
+use Rattle.std.specs.Fmt.{decimal}
+use Rattle.tape.specs.declared.status.Status.{Status}
 use Rattle.tape.specs.declared.transport.Fault.{Fault}
 use Rattle.tape.specs.Faults.{fault_word}
 use Rattle.case_words.specs.declared.answer.Answer.{Answer}
@@ -32,3 +34,9 @@ moved_word r = word_by (λ _. codes "done") r
 
 abbrev pub found_word : Result Bool Fault → List ℕ
 found_word r = word_by there_word r
+
+-- all that a status tells but the place
+abbrev pub status_words : Status → List ℕ
+status_words s =
+    codes "tracks=" ++ decimal s.tracks ++ codes " marked=" ++ yes_word s.marked ++
+    codes " failed=" ++ yes_word s.failed ++ codes " items=" ++ yes_word s.recorded

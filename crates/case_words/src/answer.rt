@@ -5,6 +5,7 @@ ghost use Rattle.case_words.specs.Words.{yes_word, answer_word, written_word, mo
 use std::fmt;
 use tape::transport::Fault;
 
+/// `yes` or `no`.
 pub fn yes(b: bool) -> &'static str
     ensures { result.now ≡ yes_word b }
 {

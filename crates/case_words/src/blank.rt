@@ -1,5 +1,5 @@
 //! Whether a transport is as it was made.
-ghost use Rattle.std.specs.Prelude.{◌≡◌, ◌↔◌, IsTrue};
+ghost use Rattle.std.specs.Prelude.{◌↔◌, IsTrue};
 ghost use Rattle.line.specs.Meaning.{line_tape};
 ghost use Rattle.case_words.specs.Blank.{LooksNew};
 

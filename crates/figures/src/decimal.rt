@@ -6,7 +6,7 @@ ghost use Rattle.figures.specs.Decimal;
 fn digit(n: usize) -> u8
     ensures { result ≡ Decimal.digit n }
 {
-    (48 + n % 10) as u8
+    b'0' + (n % 10) as u8
 }
 
 /// The last `W` decimal digits of a number, with zeros in front.
@@ -16,6 +16,7 @@ pub fn decimal<const W: usize>(n: usize) -> [u8; W]
 {
     let mut digits = [b'0'; W];
     let mut rest = n;
+    // by index: behind `iter_mut().rev()` a proof does not know what was written
     for i in (0..W).rev() {
         digits[i] = digit(rest);
         rest /= 10;

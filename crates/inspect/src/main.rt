@@ -5,8 +5,8 @@
 #![tactic(auto)]
 
 use inspection::account::account;
-use std::env;
-use std::io::{Read, Write};
+use std::env::{self, Env};
+use std::io::{self, Read, Write};
 
 // The tracks of a volume that an argument asks for.
 fn tracks_asked(argument: &str) -> Option<usize> {
@@ -17,15 +17,15 @@ fn tracks_asked(argument: &str) -> Option<usize> {
     }
 }
 
-fn run(rt: &HostRuntime) -> anyhow::Result<()> {
+fn run(rt: &(impl Env + Input + Print + AllocGlobal)) -> anyhow::Result<()> {
     let tracks = env::args(rt)?
         .filter_map(|argument| tracks_asked(argument.as_str()))
         .last()
         .unwrap_or(2);
     let mut text = Vec::new(rt.alloc());
-    rt.stdin().read_to_end(&mut text)?;
+    rt.reader().read_to_end(&mut text)?;
     let told = account(rt.alloc(), tracks, text.as_slice())?;
-    rt.stdout().write_all(told.as_slice())?;
+    io::writer(rt).write_all(told.as_slice())?;
     Ok(())
 }
 

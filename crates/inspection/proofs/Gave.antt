@@ -13,7 +13,8 @@ use Rattle.tape.proofs.Tracks.{every_getD}
 use Rattle.inspection.specs.declared.totals.Totals.{Totals}
 use Rattle.inspection.specs.Amounts.{counted}
 use Rattle.inspection.specs.Items.{item_line}
-use Rattle.inspection.specs.Account.{NextPut, place_of, item_lines}
+use Rattle.inspection.specs.Account.{place_of, item_lines}
+use Rattle.inspection.specs.Walked.{NextPut}
 use Rattle.line.specs.Meaning.{sure}
 
 next_is : (items : List Item) (n : ℕ) (i : Item) → first (drop n items) ≡ Some i → (n < length items) × (get_or items n mark ≡ i)

@@ -1,15 +1,15 @@
 -- The account of a cassette: the lines of its items, track by track, with totals. Assumes nothing.
-use Rattle.std.specs.Prelude.{◌≡◌, ℕ, suc, ◌+◌, ◌/◌, ◌%◌, cond, List, [], ◌∷◌, ◌++◌, length, Some, None, Option, ◌==◌}
+use Rattle.std.specs.Prelude.{ℕ, suc, ◌+◌, ◌/◌, ◌%◌, cond, List, [], ◌∷◌, ◌++◌, length, Some, None, Option, ◌==◌}
 use Rattle.tape.specs.declared.place.Place.{Place}
 use Rattle.tape.specs.declared.refusal.Reason.TheVariants.{Unlawful}
-use Rattle.tape.specs.Items.{Item, kind_of}
+use Rattle.tape.specs.Items.{Item}
 use Rattle.tape.specs.Refusals.{nowhere}
-use Rattle.tape.specs.Tape.{Track, Tape, next_item, head_place, head_to, most_volumes, last_marker}
+use Rattle.tape.specs.Tape.{Track, Tape, most_volumes, last_marker}
 use Rattle.line.specs.declared.settings.Settings.{Settings}
 use Rattle.line.specs.Settings.{lawful_settings}
 use Rattle.line.specs.Taken.{taken}
 use Rattle.inspection.specs.declared.totals.Totals.{Totals}
-use Rattle.inspection.specs.Amounts.{no_totals, sum, counted, together, totals_of}
+use Rattle.inspection.specs.Amounts.{no_totals, sum, together, totals_of}
 use Rattle.inspection.specs.Items.{item_line}
 use Rattle.inspection.specs.Lines.{settings_line, track_line, total_line}
 use Rattle.inspection.specs.Refused.{refusal_lines}
@@ -57,11 +57,3 @@ reading_settings tracks room = record { tracks = tracks; volumes = most_volumes;
 
 abbrev pub account_of : ℕ → List ℕ → List ℕ
 account_of tracks text = cond (lawful_settings (reading_settings tracks (length text))) (account_by (taken (reading_settings tracks (length text)) text) (length text)) (refusal_lines (nowhere Unlawful))
-
--- What one step of the walk does: at an item, its line and the totals with it, the head behind it; else nothing.
-abbrev pub NextPut : Tape → List ℕ → Totals → Option Item → Option Totals → Tape → List ℕ → Type 0
-NextPut t out c None o u new = (o ≡ None) × (u ≡ t) × (new ≡ out)
-NextPut t out c (Some i) o u new = (o ≡ Some (counted c (kind_of i))) × (u ≡ head_to t t.at (suc t.item)) × (new ≡ out ++ item_line (head_place t) i)
-
-abbrev pub PutNext : Tape → List ℕ → Totals → Option Totals → Tape → List ℕ → Type 0
-PutNext t out c o u new = NextPut t out c (next_item t) o u new

@@ -4,4 +4,5 @@ pub mod Lines
 pub mod Refused
 pub mod Items
 pub mod Account
+pub mod Walked
 pub mod Opened

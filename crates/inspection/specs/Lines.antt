@@ -10,7 +10,7 @@ line_end = 10 ∷ []
 -- settings tracks=2 volumes=01 text=0000001234
 abbrev pub settings_line : ℕ → ℕ → ℕ → List ℕ
 settings_line tracks volumes bytes =
-    numbered (codes "settings tracks=") 1 tracks ++ (numbered (codes " volumes=") 2 volumes ++ (numbered (codes " text=") 10 bytes ++ line_end))
+    codes "settings" ++ (numbered (codes " tracks=") 1 tracks ++ (numbered (codes " volumes=") 2 volumes ++ (numbered (codes " text=") 10 bytes ++ line_end)))
 
 -- vol=01 track=1 item=00002
 abbrev pub place_text : Place → List ℕ
@@ -29,4 +29,4 @@ track_line volume track t = numbered (codes "track vol=") 2 volume ++ (numbered 
 
 -- total tracks=02, and the totals of them all
 abbrev pub total_line : ℕ → Totals → List ℕ
-total_line tracks t = numbered (codes "total tracks=") 2 tracks ++ counts_text t 7 10
+total_line tracks t = codes "total" ++ (numbered (codes " tracks=") 2 tracks ++ counts_text t 7 10)

@@ -11,7 +11,8 @@ use std::alloc::{AllocError, Global};
 use tape::bounds::{LAST_MARKER, MOST_VOLUMES};
 use tape::refusal::SetupError;
 
-// The tape that a line text gives, with so many tracks to a volume.
+// The tape that a line text gives, with so many tracks to a volume. A refusal of the text is handed
+// on as one of the settings is: an error of this module would have the same two variants.
 fn tape_of(heap: Global, tracks: usize, text: &[u8]) -> Result<LineTransport, SetupError>
     ensures { Opens tracks text.now result }
 {

@@ -15,7 +15,7 @@ const SHOWN: usize = 16;
 fn seen(b: u8) -> u8
     ensures { result ≡ seen_code b }
 {
-    if 32 <= b && b <= 126 { b } else { b'.' }
+    if matches!(b, b' '..=b'~') { b } else { b'.' }
 }
 
 // The first bytes, which are shown.
@@ -33,6 +33,7 @@ impl Told for HexShown<'_> {
     ghost text = { λ s. flat_map hex_pair s.0.now };
 
     fn tell(&self, out: &mut Vec<u8>) -> Result<(), AllocError> {
+        // a loop: behind a `flat_map` into arrays a proof does not know the digits
         for b in self.0 {
             hex_of(*b).tell(out)?;
         }

@@ -20,7 +20,8 @@ impl Told for SettingsLine {
     ghost text = { λ s. settings_line s.tracks s.volumes s.bytes };
 
     fn tell(&self, out: &mut Vec<u8>) -> Result<(), AllocError> {
-        Named(b"settings tracks=", &decimal::<1>(self.tracks)).tell(out)?;
+        b"settings".tell(out)?;
+        Named(b" tracks=", &decimal::<1>(self.tracks)).tell(out)?;
         Named(b" volumes=", &decimal::<2>(self.volumes)).tell(out)?;
         Named(b" text=", &decimal::<10>(self.bytes)).tell(out)?;
         b"\n".tell(out)
@@ -89,7 +90,8 @@ impl Told for Sums {
     ghost text = { λ s. total_line s.tracks s.totals };
 
     fn tell(&self, out: &mut Vec<u8>) -> Result<(), AllocError> {
-        Named(b"total tracks=", &decimal::<2>(self.tracks)).tell(out)?;
+        b"total".tell(out)?;
+        Named(b" tracks=", &decimal::<2>(self.tracks)).tell(out)?;
         Counts::<7, 10> {
             totals: self.totals,
         }

@@ -4,7 +4,8 @@ ghost use Rattle.inspection.specs.Pieces.{named};
 
 use std::alloc::AllocError;
 
-/// Whatever has a text in an account.
+/// Whatever has a text in an account. That is bytes, and its numbers are cut to a width, so it is no
+/// `Display`.
 pub(crate) trait Told {
     /// The text of a value.
     ghost text: { Self → List ℕ };

@@ -1,17 +1,17 @@
 //! What a track, or a whole set, amounts to.
 ghost use Rattle.std.specs.Prelude.{◌≡◌, if◌then◌else◌, nat_eq};
-ghost use Rattle.inspection.specs.Amounts.{no_totals, sum, counted, together};
+ghost use Rattle.inspection.specs.Amounts.{sum, counted, together};
 
 use tape::item::Kind;
 
 /// How many items, of them blocks and marks, and the bytes of the blocks. A sum stops at the
 /// greatest number, which no tape comes near.
 #[derive(Clone, Copy, Default)]
-pub struct Totals {
-    pub items: usize,
-    pub blocks: usize,
-    pub marks: usize,
-    pub bytes: usize,
+pub(crate) struct Totals {
+    pub(crate) items: usize,
+    pub(crate) blocks: usize,
+    pub(crate) marks: usize,
+    pub(crate) bytes: usize,
 }
 
 impl Totals {
@@ -35,7 +35,7 @@ impl Totals {
         }
     }
 
-    /// The totals of these items and those.
+    /// The totals of these items and those. No `+`, which would hide that a sum stops.
     pub(crate) fn plus(self, other: Totals) -> Totals
         ensures { result ≡ together self other }
     {

@@ -1,9 +1,7 @@
 //! The walk over a tape: item by item, track by track.
-ghost use Rattle.std.specs.Prelude.{◌≡◌, ◌<◌, ◌/◌, false, ◌++◌, length, get_or, IfOk, OnOk, slice_index_or};
-ghost use Rattle.tape.specs.Tape.{blank_track, here, head_to};
+ghost use Rattle.std.specs.Prelude.{◌≡◌, ◌<◌, false, ◌++◌, length, IfOk};
 ghost use Rattle.line.specs.Meaning.{line_tape};
-ghost use Rattle.inspection.specs.Amounts.{totals_of, no_totals};
-ghost use Rattle.inspection.specs.Account.{PutNext, item_lines, track_lines, tracks_lines, all_totals, with_items, tape_account};
+ghost use Rattle.inspection.specs.Account.{tape_account};
 
 use crate::item::ItemLine;
 use crate::lines::{SettingsLine, TrackLine};
@@ -11,6 +9,7 @@ use crate::told::Told;
 use crate::totals::{Sums, Totals};
 use line::line_transport::LineTransport;
 use std::alloc::AllocError;
+use tape::bounds::LONGEST_BLOCK;
 use tape::item::{ItemRef, Kind};
 use tape::transport::Transport;
 
@@ -23,12 +22,14 @@ pub(crate) struct Walk {
 }
 
 impl Walk {
-    // The next item of the head's track has its line put and is counted; nothing at the track's end.
+    ghost use Rattle.inspection.specs.Walked.{walked, PutNext, PutItems, PutTrack, PutTracks};
+
+    // The next item of the head's track has its line put and is counted; None at the track's end.
     fn put_next(&mut self, totals: Totals) -> Result<Option<Totals>, AllocError>
-        ensures { IfOk result (λ o. PutNext (line_tape self.old.tape) self.old.out.items totals o (line_tape self.new.tape) self.new.out.items) }
+        ensures { IfOk result (λ o. PutNext self.old totals o self.new) }
     {
         let place = self.tape.place();
-        let mut buffer = [0u8; 256];
+        let mut buffer = [0u8; LONGEST_BLOCK];
         let Ok(kind) = self.tape.read(&mut buffer) else {
             return Ok(None);
         };
@@ -42,10 +43,8 @@ impl Walk {
 
     // The lines of all items of the head's track, from its first; their totals.
     fn put_items(&mut self) -> Result<Totals, AllocError>
-        requires { (line_tape self.old.tape).item ≡ 0 }
-        ensures lines { OnOk result (self.new.out.items ≡ self.old.out.items ++ item_lines (line_tape self.old.tape).tracks (line_tape self.old.tape).at 0 (here (line_tape self.old.tape)).items) }
-        ensures totals { IfOk result (λ t. t ≡ totals_of (here (line_tape self.old.tape)).items) }
-        ensures tape { OnOk result (line_tape self.new.tape ≡ head_to (line_tape self.old.tape) (line_tape self.old.tape).at (length (here (line_tape self.old.tape)).items)) }
+        requires { (walked self.old).item ≡ 0 }
+        ensures { IfOk result (λ c. PutItems self.old c self.new) }
     {
         let mut totals = Totals::default();
         while let Some(more) = self.put_next(totals)? {
@@ -54,12 +53,10 @@ impl Walk {
         Ok(totals)
     }
 
-    // The lines of a track and its totals, of which it tells the latter.
+    // The lines of a track and of its totals, which it returns.
     fn put_track(&mut self, k: usize) -> Result<Totals, AllocError>
-        requires { k < length (line_tape self.old.tape).image }
-        ensures lines { OnOk result (self.new.out.items ≡ self.old.out.items ++ track_lines (line_tape self.old.tape).tracks k (slice_index_or (line_tape self.old.tape).image k blank_track)) }
-        ensures totals { IfOk result (λ t. t ≡ totals_of (get_or (line_tape self.old.tape).image k blank_track).items) }
-        ensures tape { OnOk result (line_tape self.new.tape ≡ head_to (line_tape self.old.tape) k (length (get_or (line_tape self.old.tape).image k blank_track).items)) }
+        requires { k < length (walked self.old).image }
+        ensures { IfOk result (λ c. PutTrack self.old k c self.new) }
     {
         let _ = self.tape.seek_track(k);
         let place = self.tape.place();
@@ -75,9 +72,7 @@ impl Walk {
 
     // The lines of all tracks; their sums.
     fn put_tracks(&mut self) -> Result<Sums, AllocError>
-        ensures lines { OnOk result (self.new.out.items ≡ self.old.out.items ++ tracks_lines (line_tape self.old.tape).tracks 0 (line_tape self.old.tape).image) }
-        ensures totals { IfOk result (λ s. s.totals ≡ all_totals no_totals (line_tape self.old.tape).image) }
-        ensures tracks { IfOk result (λ s. s.tracks ≡ with_items 0 (line_tape self.old.tape).image) }
+        ensures { IfOk result (λ s. PutTracks self.old s self.new) }
     {
         let mut sums = Sums::default();
         for k in 0..self.tape.all_tracks() {

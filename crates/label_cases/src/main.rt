@@ -5,8 +5,6 @@
 //! `read TEXT` reads the text as a label, and prints what would make it.
 #![tactic(auto)]
 
-ghost use Rattle.std.specs.Prelude.{◌+◌, ◌≤◌};
-
 use labels::contents::Contents;
 use labels::fields::Fields;
 use labels::kind::LabelKind;
@@ -14,17 +12,9 @@ use labels::label::Label;
 use labels::read::parse::parse;
 use std::io;
 use std::str::from_utf8;
-use tape::refusal::{Layer, Reason};
+use tape::refusal::Reason;
 
-/// The N characters that stand at the place.
-fn part<const N: usize>(text: &[u8; 30], place: usize) -> [u8; N]
-    requires { place + N ≤ 30 }
-{
-    let mut part = [0; N];
-    part.copy_from_slice(&text[place..place + N]);
-    part
-}
-
+// The script has the variants' names; a FromStr would read what a kind displays.
 fn kind_named(word: &str) -> Option<LabelKind> {
     match word {
         "Hdr" => Some(LabelKind::Hdr),
@@ -35,32 +25,36 @@ fn kind_named(word: &str) -> Option<LabelKind> {
     }
 }
 
+/// The first N characters of the text, and what stands behind the bar that ends them.
+// By length, not by `split('|')`: a bar may stand in a part, of which no label can be made.
+fn part<const N: usize>(text: &[u8]) -> Option<([u8; N], &[u8])> {
+    let (part, rest) = text.split_first_chunk()?;
+    Some((*part, rest.strip_prefix(b"|")?))
+}
+
 /// What the words ask for, where each has its length and they are parted by bars.
 fn asked(words: &str) -> Option<Contents> {
     let (kind, words) = words.split_once('|')?;
     let (section, words) = words.split_once('|')?;
     let (count, words) = words.split_once('|')?;
-    let kind = kind_named(kind)?;
-    let section = section.parse().ok()?;
-    let count = count.parse().ok()?;
-    let text = <[u8; 30]>::try_from(words.as_bytes()).ok()?;
-    let bars = [text[4], text[13], text[19], text[23], text[25]];
-    if bars != *b"|||||" {
-        return None;
-    }
-    let fields = Fields {
-        file: part(&text, 5),
-        created: part(&text, 14),
-        retention: part(&text, 20),
-        code: text[24],
-        user: part(&text, 26),
-    };
+    let (volume, words) = part(words.as_bytes())?;
+    let (file, words) = part(words)?;
+    let (created, words) = part(words)?;
+    let (retention, words) = part(words)?;
+    let ([code], words) = part::<1>(words)?;
+    let user = words.try_into().ok()?;
     Some(Contents {
-        kind,
-        volume: part(&text, 0),
-        fields,
-        section,
-        count,
+        kind: kind_named(kind)?,
+        volume,
+        fields: Fields {
+            file,
+            created,
+            retention,
+            code,
+            user,
+        },
+        section: section.parse().ok()?,
+        count: count.parse().ok()?,
     })
 }
 
@@ -69,14 +63,8 @@ fn reads_back(label: &Label, contents: Contents) -> bool {
     parse(label.as_bytes()).is_ok_and(|read| read.contents() == contents)
 }
 
-fn show_refusal(rt: &HostRuntime, reason: Reason) -> io::Result<()> {
-    let number = reason.number();
-    let layer = match reason.layer() {
-        Layer::Transport => "transport",
-        Layer::Label => "label",
-        Layer::Structure => "structure",
-    };
-    println!(rt; "refused={number} layer={layer}")
+fn show_refusal(rt: &impl Print, reason: Reason) -> io::Result<()> {
+    println!(rt; "refused={} layer={}", reason.number(), reason.layer())
 }
 
 /// The bytes as text, which those of a label always are.
@@ -84,7 +72,7 @@ fn text(bytes: &[u8]) -> &str {
     from_utf8(bytes).unwrap_or("no text")
 }
 
-fn make(rt: &HostRuntime, contents: Contents) -> io::Result<()> {
+fn make(rt: &impl Print, contents: Contents) -> io::Result<()> {
     match Label::new(contents) {
         Ok(label) => {
             let bytes = text(label.as_bytes());
@@ -99,7 +87,7 @@ fn make(rt: &HostRuntime, contents: Contents) -> io::Result<()> {
     }
 }
 
-fn tell(rt: &HostRuntime, contents: Contents) -> io::Result<()> {
+fn tell(rt: &impl Print, contents: Contents) -> io::Result<()> {
     let Contents {
         kind,
         volume,
@@ -124,27 +112,23 @@ fn tell(rt: &HostRuntime, contents: Contents) -> io::Result<()> {
     println!(rt)
 }
 
-fn show(rt: &HostRuntime, line: &str) -> io::Result<()> {
+fn show(rt: &impl Print, line: &str) -> io::Result<()> {
     if let Some(block) = line.strip_prefix("read ") {
-        return match parse(block.as_bytes()) {
+        match parse(block.as_bytes()) {
             Ok(read) => tell(rt, read.contents()),
             Err(reason) => show_refusal(rt, reason),
-        };
+        }
+    } else if let Some(contents) = line.strip_prefix("make ").and_then(asked) {
+        make(rt, contents)
+    } else {
+        println!(rt; "no such case")
     }
-    if let Some(contents) = line.strip_prefix("make ").and_then(asked) {
-        return make(rt, contents);
-    }
-    println!(rt; "no such case")
-}
-
-fn run(rt: &HostRuntime) -> anyhow::Result<()> {
-    let script = io::read_to_string(rt.alloc(), rt.stdin())?;
-    for line in script.lines() {
-        show(rt, line)?;
-    }
-    Ok(())
 }
 
 fn main(rt: HostRuntime) -> anyhow::Result<()> {
-    run(&rt)
+    let script = io::read_to_string(rt.alloc(), rt.stdin())?;
+    for line in script.lines() {
+        show(&rt, line)?;
+    }
+    Ok(())
 }

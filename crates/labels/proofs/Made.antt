@@ -105,8 +105,7 @@ module _ (c : Contents) (l : Lawful c) where
       (cut 3 f.retention _ (part_length f.retention 3 Digits l.retention))
       (cut 4 (decimal 4 c.count) _ refl)
       (cut 1 (f.code ∷ []) f.user refl)
-      (cut_last 4 f.user (part_length f.user 4 Text l.user))
-      refl)
+      (cut_last 4 f.user (part_length f.user 4 Text l.user)))
 
   parts_lawful : lawful_parts (parts_given c) ≡ true
   parts_lawful =

@@ -1,11 +1,11 @@
 //! The characters of a label's fields, the numbers they write, and the date rule.
 ghost use Rattle.std.specs.Prelude.{◌≡◌, ◌≤◌, length};
 ghost use Rattle.std.specs.List.{list_all};
-ghost use Rattle.labels.specs.Characters.{a_character, n_character, in_set, is_part, digit, number, lawful_date};
+ghost use Rattle.labels.specs.Characters.{a_character, n_character, in_set, digit, number, lawful_date};
 
 /// The two sets of characters that fields are made of: a characters, and n characters.
 #[derive(Clone, Copy)]
-pub enum CharSet {
+pub(crate) enum CharSet {
     Text,
     Digits,
 }
@@ -55,25 +55,19 @@ pub(crate) fn number(digits: &[u8]) -> u16
     requires { length digits.now ≤ 4 }
     ensures { result ≡ number digits.now }
 {
+    // a loop: as a fold, the closure would owe the bound of n * 10
     let mut n = 0;
     for b in digits {
-        n = n * 10 + digit(*b) as u16;
+        n = n * 10 + u16::from(digit(*b));
     }
     n
-}
-
-/// Whether the part is `length` characters of the set.
-pub(crate) fn is_part(part: &[u8], length: usize, set: CharSet) -> bool
-    ensures { result ≡ is_part part.now length set }
-{
-    part.len() == length && set.has_all(part)
 }
 
 /// Whether the part is a date: two digits of a year and three of a day, or 00000 for none.
 pub(crate) fn is_date(date: &[u8]) -> bool
     ensures { result ≡ lawful_date date.now }
 {
-    if !is_part(date, 5, CharSet::Digits) {
+    if date.len() != 5 || !CharSet::Digits.has_all(date) {
         return false;
     }
     let year = number(&date[0..2]);

@@ -2,13 +2,14 @@
 ghost use Rattle.std.specs.Prelude.{◌≡◌};
 ghost use Rattle.labels.specs.Contents.{lawful_volume, lawful_contents};
 
-use crate::characters::{CharSet, is_part};
+use crate::characters::CharSet;
 use crate::fields::Fields;
 use crate::kind::LabelKind;
 
-/// The greatest section number and block count.
+/// The greatest section number: two digits.
 const LAST_SECTION: u8 = 99;
 
+/// The greatest block count: four digits.
 const LAST_COUNT: u16 = 9999;
 
 /// All that a label says: what one is made of, and what reading it gives back.
@@ -28,7 +29,7 @@ pub struct Contents {
 pub(crate) fn is_volume(volume: [u8; 4]) -> bool
     ensures { result ≡ lawful_volume volume }
 {
-    is_part(&volume, 4, CharSet::Text)
+    CharSet::Text.has_all(&volume)
 }
 
 impl Contents {

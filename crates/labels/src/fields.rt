@@ -2,7 +2,7 @@
 ghost use Rattle.std.specs.Prelude.{◌≡◌, Decides};
 ghost use Rattle.labels.specs.Fields.{lawful_fields, same_fields};
 
-use crate::characters::{CharSet, is_date, is_n_character, is_part};
+use crate::characters::{CharSet, is_date, is_n_character};
 
 /// The header fields of a file, as the characters of its labels.
 #[derive(Clone, Copy, PartialEq, Eq, Debug)]
@@ -24,11 +24,11 @@ impl Fields {
     pub(crate) fn are_lawful(&self) -> bool
         ensures { result ≡ lawful_fields self.now }
     {
-        is_part(&self.file, 8, CharSet::Text)
+        CharSet::Text.has_all(&self.file)
             && is_date(&self.created)
-            && is_part(&self.retention, 3, CharSet::Digits)
+            && CharSet::Digits.has_all(&self.retention)
             && is_n_character(self.code)
-            && is_part(&self.user, 4, CharSet::Text)
+            && CharSet::Text.has_all(&self.user)
     }
 
     /// Whether each field has the same characters, which is what `==` decides.

@@ -5,7 +5,7 @@ ghost use Rattle.labels.specs.Layout.{lawful_label};
 use std::marker::Model;
 
 /// The 32 bytes of a lawful label: clauses see the bytes.
-#[derive(Clone, Copy)]
+#[derive(Clone, Copy, Debug)]
 pub struct Label {
     bytes: [u8; 32],
 }
@@ -20,4 +20,4 @@ impl Model for Label {
     ghost inverse = { λ bytes. record { bytes = bytes } };
 }
 
-pub mod made;
+mod made;

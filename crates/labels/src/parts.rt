@@ -13,5 +13,5 @@ pub struct Parts<'a> {
     pub user: &'a [u8; 4],
 }
 
-pub mod found;
-pub mod told;
+mod found;
+mod told;

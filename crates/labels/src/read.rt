@@ -2,6 +2,7 @@
 use crate::parts::Parts;
 
 /// Its kind, and its parts as the block has them.
+// A variant for each kind, so that who reads a label takes it apart by its kind.
 #[derive(Clone, Copy)]
 pub enum LabelRef<'a> {
     Hdr(Parts<'a>),

@@ -1,5 +1,6 @@
 -- What a line transport's invariant gives. Assumes nothing.
 use Rattle.std.specs.Prelude.{◌≡◌, ℕ, zero, suc, ◌+◌, ◌/◌, ◌%◌, ◌<◌, ◌≤◌, true, false, not, ◌&&◌, List, [], ◌∷◌, ◌++◌, length, get_or, drop, vec_items, ◌==◌, nat_le, nat_lt, slice_index_or, refl}
+use Rattle.std.proofs.lemmas.List.{get_or_past}
 use Rattle.std.proofs.Common.{sym, ap, ◌∙◌, ⊎_elim, arith, length-drop, length-append, lt-ltb}
 use lib.ListN.{length-map}
 use Rattle.std.proofs.lemmas.Bool.{and_parts, eqb-false}
@@ -41,6 +42,14 @@ track_is x k h = track_at x.settings.tracks (vec_items x.text) (vec_items x.span
 
 pub count_at : (x : LineTransport) (k : ℕ) → k < length (vec_items x.spans) → length (get_or (line_tape x).image k blank_track).items ≡ (span_at x k).count
 count_at x k h = ap (λ (t : Track). length t.items) (track_is x k h) ∙ length_items_in (span_at x k).count (drop (span_at x k).start (vec_items x.text))
+
+-- a track that is not there has none
+pub any_count : (x : LineTransport) (k : ℕ) → length (get_or (line_tape x).image k blank_track).items ≡ (span_at x k).count
+any_count x k =
+    ⊎_elim
+    (λ inside. count_at x k inside)
+    (λ past. ap (λ (t : Track). length t.items) (get_or_past (line_tape x).image k blank_track (omega (arith, all_there x, past))) ∙ sym (ap (λ (s : Span). s.count) (get_or_past (vec_items x.spans) k blank_span past)))
+    (order k (length (vec_items x.spans)))
 
 pub here_of : (x : LineTransport) → here (line_tape x) ≡ track_of (vec_items x.text) (head_span x)
 here_of x = track_is x x.head.at x.inside.0
@@ -109,4 +118,4 @@ pub next_inside : (x : LineTransport) → on_last_track (line_tape x) ≡ false 
 next_inside x e =
     let off = eqb-false (suc x.head.at % x.settings.tracks) 0 e in
     let n = length (vec_items x.spans) in
-    ⊎_elim (λ less. less) (λ le. let same : suc x.head.at ≡ n = omega (arith, x.inside.0) in absurd (off (ap (λ m. m % x.settings.tracks) same ∙ x.bounds.2))) (order (x.head.at + 1) n)
+    ⊎_elim (λ less. less) (λ le. let same : suc x.head.at ≡ n = omega (arith, x.inside.0) in absurd (off (ap (λ m. m % x.settings.tracks) same ∙ x.whole_volumes))) (order (x.head.at + 1) n)

@@ -1,5 +1,5 @@
 -- A blank text and the blank tracks of one volume. Assumes nothing.
-use Rattle.std.proofs.Common.{◌≡◌, ℕ, suc, ◌+◌, ◌-◌, ◌*◌, ◌/◌, ◌%◌, ◌≤◌, List, [], length, get_or, replicate, sym, refl, ap, ◌∙◌, subst₂, suc-mul, arith}
+use Rattle.std.proofs.Common.{◌≡◌, ℕ, ◌-◌, ◌/◌, ◌%◌, ◌≤◌, List, [], length, get_or, replicate, sym, refl, ap, ◌∙◌, subst₂, arith}
 use native.Mathlib.Nat.{mod_self, div_self}
 use lib.ListN.{length-replicate}
 use Rattle.tape.specs.Tape.{blank_track, first_marker}
@@ -22,8 +22,8 @@ pub record Blank (w V marker : ℕ) (text : List ℕ) (spans : List Span) : Type
   pub reached : HeadPlaced w text spans 0 0 0
   pub unmarked : Unmarked marker spans
   pub whole : length spans % w ≡ 0
-  pub volumes : length spans / w + (V - 1) ≡ V
-  pub room : length spans + (V - 1) * w ≡ V * w
+  pub volumes : length spans / w ≤ V
+  pub left : V - length spans / w ≡ V - 1
   pub image : image_of text spans ≡ replicate w blank_track
 
 module _ (w V marker : ℕ) (text : List ℕ) (spans : List Span) (blank : text ≡ []) (volume : spans ≡ replicate w blank_span) (some : 1 ≤ w) (one : 1 ≤ V) (late : first_marker ≤ marker) where
@@ -36,6 +36,9 @@ module _ (w V marker : ℕ) (text : List ℕ) (spans : List Span) (blank : text 
   long : length spans ≡ w
   long = ap length volume ∙ length-replicate w blank_span
 
+  one_volume : length spans / w ≡ 1
+  one_volume = ap (λ n. n / w) long ∙ div_self {n = w} some
+
   pub all_blank : Blank w V marker text spans
   all_blank = record {
     laid = subst₂ (Laid w) (sym blank) (sym volume) (laid_with_blanks w [] [] w (laid_none w));
@@ -46,7 +49,7 @@ module _ (w V marker : ℕ) (text : List ℕ) (spans : List Span) (blank : text 
     reached = λ h. absurd (omega (arith, h, none 0));
     unmarked = λ k h e. omega (arith, none k);
     whole = ap (λ n. n % w) long ∙ mod_self w;
-    volumes = ap (λ n. n / w + (V - 1)) long ∙ omega (arith, div_self {n = w} some);
-    room = (let e : suc (V - 1) ≡ V = omega arith in omega (arith, long, sym (suc-mul (V - 1) w) ∙ ap (λ n. n * w) e));
+    volumes = omega (arith, one_volume, one);
+    left = ap (λ n. V - n) one_volume;
     image = ap (image_of text) volume ∙ image_with_blanks text [] w;
   }

@@ -1,6 +1,5 @@
 -- A line transport with blank tracks behind the others. Assumes nothing.
-use Rattle.std.proofs.Common.{◌≡◌, ℕ, ◌+◌, ◌*◌, ◌/◌, ◌<◌, ◌≤◌, true, false, List, ◌++◌, length, get_or, take, replicate, vec_items, sym, refl, ap, ◌∙◌, subst, ⊎_elim, add-mul, div-add-mod', zero-mul, arith, length-append}
-use Rattle.std.proofs.str.Laws.{order}
+use Rattle.std.proofs.Common.{◌≡◌, ℕ, ◌+◌, ◌<◌, true, false, List, ◌++◌, length, get_or, take, replicate, vec_items, sym, refl, ap, ◌∙◌, subst, arith, length-append}
 use lib.ListN.{length-replicate}
 use Rattle.std.proofs.lemmas.List.{get_or_past}
 use Rattle.line_text.specs.declared.span.Span.{Span}
@@ -21,7 +20,7 @@ module _ (x : LineTransport) (n : ℕ) (spans : List Span) (is : spans ≡ vec_i
   sound_more = subst AllSound (sym is) (with_blanks x.settings.tracks (vec_items x.text) (vec_items x.spans) n (λ s. sound_span s ≡ true) refl x.sound)
 
   pub unmarked_more : Unmarked x.settings.marker spans
-  unmarked_more = subst (Unmarked x.settings.marker) (sym is) (with_blanks x.settings.tracks (vec_items x.text) (vec_items x.spans) n (λ s. is_marked s ≡ false → s.count < x.settings.marker) (λ e. omega (arith, x.foil)) x.unmarked)
+  unmarked_more = subst (Unmarked x.settings.marker) (sym is) (with_blanks x.settings.tracks (vec_items x.text) (vec_items x.spans) n (λ s. is_marked s ≡ false → s.count < x.settings.marker) (λ e. omega (arith, x.lawful.late)) x.unmarked)
 
   pub behind_more : NoneBehind spans x.last
   behind_more = subst (λ l. NoneBehind l x.last) (sym is) (none_behind_blanks (vec_items x.spans) n x.last x.behind)
@@ -41,16 +40,3 @@ module _ (x : LineTransport) (n : ℕ) (spans : List Span) (is : spans ≡ vec_i
 
   pub reached_more : HeadPlaced x.settings.tracks (vec_items x.text) spans x.head.at x.head.item x.head.pos
   reached_more = subst (λ (s : Span). 0 < s.count → x.head.pos ≡ s.start + length (lines_of x.settings.tracks x.head.at 0 (take x.head.item (span_items (vec_items x.text) s)))) (sym (same_span x.head.at)) x.reached
-
--- the tracks that there are, and those that may still be mounted
-pub whole_tracks : (x : LineTransport) → length (vec_items x.spans) / x.settings.tracks * x.settings.tracks ≡ length (vec_items x.spans)
-whole_tracks x = omega (arith, div-add-mod' (length (vec_items x.spans)) x.settings.tracks, x.bounds.2)
-
-pub all_tracks : (x : LineTransport) → x.settings.volumes * x.settings.tracks ≡ length (vec_items x.spans) + x.left * x.settings.tracks
-all_tracks x = ap (λ v. v * x.settings.tracks) (sym x.bounds.3) ∙ add-mul (length (vec_items x.spans) / x.settings.tracks) x.left x.settings.tracks ∙ ap (λ m. m + x.left * x.settings.tracks) (whole_tracks x)
-
-pub some_volume : (x : LineTransport) → 1 ≤ x.settings.volumes
-some_volume x = ⊎_elim (λ some. some) (λ none. absurd (omega (arith, x.inside.0, whole_tracks x, ap (λ n. n * x.settings.tracks) (no_volume none), zero-mul x.settings.tracks))) (order 0 x.settings.volumes)
-  where
-    no_volume : x.settings.volumes ≤ 0 → length (vec_items x.spans) / x.settings.tracks ≡ 0
-    no_volume h = omega (arith, x.bounds.3)

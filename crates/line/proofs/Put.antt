@@ -11,7 +11,7 @@ use Rattle.line_text.specs.Facts.{length_items_in}
 use Rattle.line_text.proofs.OneMore.{image_after, laid_after, end_after}
 use Rattle.line_text.proofs.OneLine.{length_line}
 use Rattle.line.specs.declared.line_transport.LineTransport.{LineTransport}
-use Rattle.line.specs.Meaning.{line_tape}
+use Rattle.line.specs.Meaning.{line_tape, volumes_left}
 use Rattle.line.specs.Taken.{line_on}
 use Rattle.line.specs.Steps.{span_at, Fits, with_item}
 use Rattle.line.proofs.Facts.{laid_of, track_is, count_at}
@@ -89,9 +89,9 @@ module _ (x : LineTransport) (k : ℕ) (i : Item) (s : Span) (f : Fits x k i s) 
   pub line_is : added x k i ≡ line_on (line_tape x) k i
   line_is = ap (λ n. line (k / x.settings.tracks + 1) (k % x.settings.tracks + 1) (suc n) i) (sym count_is)
 
-  pub tape_is : tape_in x.settings.tracks (text ++ added x k i) new_spans k s.count x.left x.failed ≡ with_item (line_tape x) k i s
+  pub tape_is : tape_in x.settings.tracks (text ++ added x k i) new_spans k s.count (volumes_left x) x.failed ≡ with_item (line_tape x) k i s
   tape_is =
       let track : track_now ≡ record { items = (get_or (image_of text spans) k blank_track).items ++ i ∷ []; marked = is_marked s; since = taken_since s } = ap (λ (t : Track). record { items = t.items ++ i ∷ []; marked = is_marked s; since = taken_since s }) (sym (track_is x k f.inside)) in
       let image = image_now ∙ ap (set (image_of text spans) k) track in
       let item = f.counts ∙ ap suc (sym count_is) in
-      λ j. record { tracks = x.settings.tracks; image = image j; at = k; item = item j; left = x.left; failed = x.failed }
+      λ j. record { tracks = x.settings.tracks; image = image j; at = k; item = item j; left = volumes_left x; failed = x.failed }

@@ -51,19 +51,19 @@ module _ (x : LineTransport) (i : Item) (applies : (at_end (line_tape x) && take
     inside = x.inside.0;
     last = ends.1;
     proper_item = (and_parts (proper i) _ taken).0;
-    counts = count_after old (length text) x.settings.marker x.foil.0 x.foil.1 sound_old early;
+    counts = count_after old (length text) x.settings.marker x.lawful.late x.lawful.early sound_old early;
     starts = refl;
-    sound = sound_from new_span (sound_after old (length text) x.settings.marker x.foil.0 x.foil.1 sound_old early room);
-    early = early_after old (length text) x.settings.marker x.foil.0 x.foil.1 sound_old early;
+    sound = sound_from new_span (sound_after old (length text) x.settings.marker x.lawful.late x.lawful.early sound_old early room);
+    early = early_after old (length text) x.settings.marker x.lawful.late x.lawful.early sound_old early;
   }
 
   -- the marker is met as the rules have it
   pub met_now : is_marked new_span ≡ (recorded (line_choice x i) (here (line_tape x)) i).marked
   met_now =
-      marked_after old (length text) x.settings.marker x.foil.0 x.foil.1 sound_old early ∙ ap (λ n. is_marked old || (leb 60000 (suc n) || (leb 3 (suc n) && eqb (suc n) x.settings.marker))) (sym (here_count x)) ∙ ap (λ (t : Track). t.marked || (leb 60000 (suc (length (here (line_tape x)).items)) || (leb 3 (suc (length (here (line_tape x)).items)) && eqb (suc (length (here (line_tape x)).items)) x.settings.marker))) (sym (here_of x))
+      marked_after old (length text) x.settings.marker x.lawful.late x.lawful.early sound_old early ∙ ap (λ n. is_marked old || (leb 60000 (suc n) || (leb 3 (suc n) && eqb (suc n) x.settings.marker))) (sym (here_count x)) ∙ ap (λ (t : Track). t.marked || (leb 60000 (suc (length (here (line_tape x)).items)) || (leb 3 (suc (length (here (line_tape x)).items)) && eqb (suc (length (here (line_tape x)).items)) x.settings.marker))) (sym (here_of x))
 
   since_now : taken_since new_span ≡ (recorded (line_choice x i) (here (line_tape x)) i).since
-  since_now = since_after old (length text) x.settings.marker x.foil.0 x.foil.1 sound_old early ∙ ap (λ (t : Track). cond t.marked (suc t.since) t.since) (sym (here_of x))
+  since_now = since_after old (length text) x.settings.marker x.lawful.late x.lawful.early sound_old early ∙ ap (λ (t : Track). cond t.marked (suc t.since) t.since) (sym (here_of x))
 
   pub tape_now : with_item (line_tape x) x.head.at i new_span ≡ written (line_choice x i) (line_tape x) i
   tape_now =

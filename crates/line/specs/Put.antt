@@ -6,7 +6,12 @@ use Rattle.std.specs.Global.{Vec}
 abbrev pub HasRoom : {X : Type 0} → Vec X → ℕ → Type 0
 HasRoom v n = length (vec_items v) + n ≤ vec_capacity v
 
--- these stand at its end now, and it has as much memory as before
+-- these stand at its end now, and its memory is no less
 pub record Puts {X : Type 0} (old new : Vec X) (added : List X) : Type 0 where
   pub items : vec_items new ≡ vec_items old ++ added
   pub capacity : vec_capacity old ≤ vec_capacity new
+
+-- these stand at its end now, in the very memory that was there
+pub record PutsReserved {X : Type 0} (old new : Vec X) (added : List X) : Type 0 where
+  pub items : vec_items new ≡ vec_items old ++ added
+  pub capacity : vec_capacity new ≡ vec_capacity old

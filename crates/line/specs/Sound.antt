@@ -39,10 +39,10 @@ sound_of x =
     let spans = vec_items x.spans in
     let n = length-map spans (track_of text) in
     record {
-      some_track = x.bounds.0;
-      few_tracks = x.bounds.1;
-      whole_volumes = ap (λ m. m % x.settings.tracks) n ∙ x.bounds.2;
-      few_volumes = rw n (omega (arith, x.bounds.3, x.bounds.4));
+      some_track = x.lawful.some_track;
+      few_tracks = x.lawful.few_tracks;
+      whole_volumes = ap (λ m. m % x.settings.tracks) n ∙ x.whole_volumes;
+      few_volumes = rw n (omega (arith, x.mounted, x.lawful.few_volumes));
       head_track = omega (arith, n, x.inside.0);
       head_item = omega (arith, here_count x, x.inside.1);
       every_track = every_from text spans (λ k h. sound_track text (slice_index_or spans k blank_span) (x.sound k h) (x.propers k h));

@@ -1,12 +1,12 @@
 //! A tape kept as text: the lines of its items, and where each track's lines lie.
-ghost use Rattle.std.specs.Prelude.{◌≡◌, ◌+◌, ◌*◌, ◌/◌, ◌%◌, ◌<◌, ◌≤◌, length, vec_len, vec_capacity};
-ghost use Rattle.tape.specs.Tape.{most_tracks, most_volumes, first_marker, last_marker};
+ghost use Rattle.std.specs.Prelude.{◌≡◌, ◌*◌, ◌/◌, ◌%◌, ◌<◌, ◌≤◌, length, vec_len, vec_capacity};
 ghost use Rattle.line_text.specs.Layout.{Whole, Placed, Propers, AllSound, NoneBehind, SomeThere, HeadInside, HeadPlaced, Unmarked};
+ghost use Rattle.line.specs.Settings.{Lawful};
 
 use crate::settings::Settings;
 use line_text::span::Span;
 
-pub mod interface;
+mod interface;
 mod laying;
 mod moving;
 mod reading;
@@ -38,10 +38,9 @@ pub struct LineTransport {
     // one for each track of each volume mounted so far
     spans: Vec<Span>,
     settings: Settings,
-    // volumes still to be mounted
-    left: usize,
     head: Head,
-    // the last track that has items
+    // the last track that has items, or the first where none has: a track in any case, as `has_items`
+    // and `is_at_end` ask
     last: usize,
     failed: bool,
     ghost whole: { Whole settings.tracks text.items spans.items },
@@ -54,7 +53,10 @@ pub struct LineTransport {
     ghost inside: { HeadInside spans.items head.at head.item },
     ghost reached: { HeadPlaced settings.tracks text.items spans.items head.at head.item head.pos },
     ghost unmarked: { Unmarked settings.marker spans.items },
-    ghost bounds: { (1 ≤ settings.tracks) × (settings.tracks ≤ most_tracks) × (length spans.items % settings.tracks ≡ 0) × (length spans.items / settings.tracks + left ≡ settings.volumes) × (settings.volumes ≤ most_volumes) },
-    ghost memory: { (settings.room ≤ vec_capacity text) × (length text.items ≤ settings.room) × (length spans.items + left * settings.tracks ≤ vec_capacity spans) },
-    ghost foil: { (first_marker ≤ settings.marker) × (settings.marker ≤ last_marker) },
+    ghost lawful: { Lawful settings },
+    ghost whole_volumes: { length spans.items % settings.tracks ≡ 0 },
+    ghost mounted: { length spans.items / settings.tracks ≤ settings.volumes },
+    ghost text_memory: { settings.room ≤ vec_capacity text },
+    ghost in_room: { length text.items ≤ settings.room },
+    ghost span_memory: { settings.volumes * settings.tracks ≤ vec_capacity spans },
 }

@@ -4,13 +4,16 @@ ghost use Rattle.line.specs.Settings.{lawful_settings};
 
 use tape::bounds::{FIRST_MARKER, LAST_MARKER, is_size};
 
-/// Tracks of a volume (1 or 2); volumes in all (1 to 49), the first of them mounted from the start;
-/// the write that meets each track's marker (3 to 60,000); and the room for the text in bytes.
+/// What a line transport is made for.
 #[derive(Clone, Copy)]
 pub struct Settings {
+    /// The tracks of a volume: 1 or 2.
     pub tracks: usize,
+    /// The volumes in all, 1 to 49, the first of them mounted from the start.
     pub volumes: usize,
+    /// The write that meets each track's marker: 3 to 60,000.
     pub marker: usize,
+    /// The room for the text, in bytes.
     pub room: usize,
 }
 
@@ -19,8 +22,6 @@ impl Settings {
     pub(crate) fn is_lawful(&self) -> bool
         ensures { result ≡ lawful_settings self.now }
     {
-        is_size(self.tracks, self.volumes)
-            && FIRST_MARKER <= self.marker
-            && self.marker <= LAST_MARKER
+        is_size(self.tracks, self.volumes) && (FIRST_MARKER..=LAST_MARKER).contains(&self.marker)
     }
 }

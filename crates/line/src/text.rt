@@ -1,9 +1,9 @@
-//! Lines put at the end of a text whose memory is there already.
+//! Lines put at the end of a text, and blank tracks behind the others, in memory that is there already.
 ghost use Rattle.std.specs.Prelude.{◌≡◌, ◌*◌, true, length, replicate};
 ghost use Rattle.tape.specs.Items.{item_of};
 ghost use Rattle.line_text.specs.Lines.{line, line_size, hexed, small, small_item};
 ghost use Rattle.line_text.specs.Layout.{blank_span};
-ghost use Rattle.line.specs.Put.{HasRoom, Puts};
+ghost use Rattle.line.specs.Put.{HasRoom, Puts, PutsReserved};
 
 use figures::hex::hex_of;
 use line_text::lines::{block_head_of, head_of};
@@ -15,7 +15,7 @@ fn put_bytes(text: &mut Vec<u8>, bytes: &[u8])
     requires { HasRoom text.old (length bytes.now) }
     ensures { Puts text.old text.new bytes.now }
 {
-    let _ = text.extend_from_slice(bytes);
+    text.extend_from_slice(bytes).unwrap();
 }
 
 fn put_hex(text: &mut Vec<u8>, bytes: &[u8])
@@ -44,10 +44,13 @@ pub(crate) fn put_line(text: &mut Vec<u8>, place: Place, item: ItemRef<'_>)
     }
 }
 
-// Blank tracks behind the others.
+// So many blank tracks more.
 pub(crate) fn put_blanks(spans: &mut Vec<Span>, n: usize)
     requires { HasRoom spans.old n }
-    ensures { Puts spans.old spans.new (replicate n blank_span) }
+    ensures { PutsReserved spans.old spans.new (replicate n blank_span) }
 {
-    let _ = spans.resize(spans.len() + n, Span::blank());
+    // push_reserved promises that nothing is allocated, as resize does not
+    for _ in 0..n {
+        spans.push_reserved(Span::blank());
+    }
 }

@@ -1,7 +1,8 @@
 //! Texts that must be refused, each made from a good one by one change, beside a few that must not.
-use crate::common::{USUAL, show_refusal};
+use crate::common::Refused;
 use case_words::answer::yes;
 use case_words::blank::is_blank;
+use case_words::settings::USUAL;
 use line::line_transport::LineTransport;
 use line::settings::Settings;
 use std::alloc::{AllocError, Global};
@@ -17,20 +18,20 @@ vol=01 track=2 item=00001 kind=mark\n\
 vol=02 track=1 item=00001 kind=block size=001 hex=0A\n\
 vol=02 track=2 item=00001 kind=mark\n";
 
-// Where its lines begin.
-const A: usize = 0;
+// Where its lines begin, counted here: a constant's value calls no function that finds a line feed.
+const FIRST: usize = 0;
 
-const B: usize = 36;
+const SECOND: usize = 36;
 
-const C: usize = 93;
+const THIRD: usize = 93;
 
-const D: usize = 129;
+const FOURTH: usize = 129;
 
-const E: usize = 165;
+const FIFTH: usize = 165;
 
-const F: usize = 218;
+const SIXTH: usize = 218;
 
-const END: usize = 254;
+const END: usize = GOOD.len();
 
 // Where the parts of a line begin.
 const VOLUME: usize = 4;
@@ -45,46 +46,58 @@ const SIZE: usize = 42;
 
 const HEX: usize = 50;
 
-// A change of the good text: its name, where it begins, how many bytes give way, and to what.
-type Change = (&'static str, usize, usize, &'static str);
+// A change of the good text: its name, where it begins, how many bytes give way, and to what. In
+// this order, so that a case is one line of a table.
+#[derive(Drop)]
+struct Change(&'static str, usize, usize, &'static str);
+
+impl Change {
+    // The good text with the change.
+    fn text(&self, alloc: Global) -> Result<String, AllocError> {
+        let Change(_, at, cut, with) = *self;
+        let front = GOOD.get(..at).unwrap_or("");
+        let back = GOOD.get(at.saturating_add(cut)..).unwrap_or("");
+        [front, with, back].concat(alloc)
+    }
+}
 
 const WORDS: [Change; 10] = [
-    ("the good text", A, 0, ""),
-    ("a letter of vol= changed", A + 1, 1, "a"),
-    ("a capital in track=", D + 7, 1, "T"),
-    ("a letter of item= changed", C + 16, 1, "d"),
-    ("a letter of kind= changed", B + 27, 1, "y"),
-    ("neither mark nor block", A + KIND, 4, "note"),
-    ("a mark misspelt", F + KIND, 4, "mask"),
-    ("a block misspelt", B + KIND, 5, "black"),
-    ("a letter of size= changed", B + 37, 1, "z"),
-    ("a letter of hex= changed", B + 46, 1, "H"),
+    Change("the good text", FIRST, 0, ""),
+    Change("a letter of vol= changed", FIRST + 1, 1, "a"),
+    Change("a capital in track=", FOURTH + 7, 1, "T"),
+    Change("a letter of item= changed", THIRD + 16, 1, "d"),
+    Change("a letter of kind= changed", SECOND + 27, 1, "y"),
+    Change("neither mark nor block", FIRST + KIND, 4, "note"),
+    Change("a mark misspelt", SIXTH + KIND, 4, "mask"),
+    Change("a block misspelt", SECOND + KIND, 5, "black"),
+    Change("a letter of size= changed", SECOND + 37, 1, "z"),
+    Change("a letter of hex= changed", SECOND + 46, 1, "H"),
 ];
 
 const NUMBERS: [Change; 10] = [
-    ("items start at 2", A, B - A, ""),
-    ("items start at 0", A + ITEM, 5, "00000"),
-    ("a gap in the items", B, C - B, ""),
-    ("a repeated item", B + ITEM, 5, "00001"),
-    ("an item number of four digits", A + ITEM, 5, "0001"),
-    ("an item number in a wrong digit", A + ITEM, 5, "10001"),
-    ("volume 00", A + VOLUME, 2, "00"),
-    ("volume 03 of two", F + VOLUME, 2, "03"),
-    ("track 0", A + TRACK, 1, "0"),
-    ("track 3", D + TRACK, 1, "3"),
+    Change("items start at 2", FIRST, SECOND - FIRST, ""),
+    Change("items start at 0", FIRST + ITEM, 5, "00000"),
+    Change("a gap in the items", SECOND, THIRD - SECOND, ""),
+    Change("a repeated item", SECOND + ITEM, 5, "00001"),
+    Change("an item number of four digits", FIRST + ITEM, 5, "0001"),
+    Change("an item number in a wrong digit", FIRST + ITEM, 5, "10001"),
+    Change("volume 00", FIRST + VOLUME, 2, "00"),
+    Change("volume 03 of two", SIXTH + VOLUME, 2, "03"),
+    Change("track 0", FIRST + TRACK, 1, "0"),
+    Change("track 3", FOURTH + TRACK, 1, "3"),
 ];
 
 const BLOCKS: [Change; 10] = [
-    ("a size too small", B + SIZE, 3, "002"),
-    ("a size too large", B + SIZE, 3, "004"),
-    ("size 000 with hex", B + SIZE, 3, "000"),
-    ("size 000 without hex", B + SIZE, 14, "000 hex="),
-    ("small letters in hex", B + HEX + 4, 2, "ff"),
-    ("a hex digit too few", B + HEX + 5, 1, ""),
-    ("a hex digit too many", B + HEX + 6, 0, "0"),
-    ("a letter past F in hex", B + HEX, 1, "G"),
-    ("a colon in hex", B + HEX, 1, ":"),
-    ("a slash in hex", B + HEX, 1, "/"),
+    Change("a size too small", SECOND + SIZE, 3, "002"),
+    Change("a size too large", SECOND + SIZE, 3, "004"),
+    Change("size 000 with hex", SECOND + SIZE, 3, "000"),
+    Change("size 000 without hex", SECOND + SIZE, 14, "000 hex="),
+    Change("small letters in hex", SECOND + HEX + 4, 2, "ff"),
+    Change("a hex digit too few", SECOND + HEX + 5, 1, ""),
+    Change("a hex digit too many", SECOND + HEX + 6, 0, "0"),
+    Change("a letter past F in hex", SECOND + HEX, 1, "G"),
+    Change("a colon in hex", SECOND + HEX, 1, ":"),
+    Change("a slash in hex", SECOND + HEX, 1, "/"),
 ];
 
 // A block of so many zero digits in the last line but one: its size as told, and the digits.
@@ -96,18 +109,23 @@ const SIZES: [(&str, &str, usize); 4] = [
 ];
 
 const ENDS: [Change; 12] = [
-    ("no last line feed", END - 1, 1, ""),
-    ("no last line feed of a block", F - 1, END - F + 1, ""),
-    ("half a line at the end", F + 9, END - F - 9, ""),
-    ("no line feed in the middle", D - 1, 1, ""),
-    ("a blank line at the front", A, 0, "\n"),
-    ("a blank line in the middle", C, 0, "\n"),
-    ("a blank line at the end", END, 0, "\n"),
-    ("a blank line alone", A, END, "\n"),
-    ("a trailing space after a mark", B - 1, 0, " "),
-    ("a trailing space after a block", C - 1, 0, " "),
-    ("a carriage return", B - 1, 0, "\r"),
-    ("a byte behind the end", END, 0, "\0"),
+    Change("no last line feed", END - 1, 1, ""),
+    Change(
+        "no last line feed of a block",
+        SIXTH - 1,
+        END - SIXTH + 1,
+        "",
+    ),
+    Change("half a line at the end", SIXTH + 9, END - SIXTH - 9, ""),
+    Change("no line feed in the middle", FOURTH - 1, 1, ""),
+    Change("a blank line at the front", FIRST, 0, "\n"),
+    Change("a blank line in the middle", THIRD, 0, "\n"),
+    Change("a blank line at the end", END, 0, "\n"),
+    Change("a blank line alone", FIRST, END, "\n"),
+    Change("a trailing space after a mark", SECOND - 1, 0, " "),
+    Change("a trailing space after a block", THIRD - 1, 0, " "),
+    Change("a carriage return", SECOND - 1, 0, "\r"),
+    Change("a byte behind the end", END, 0, "\0"),
 ];
 
 // The lines of the good text, counted from 0, in another order.
@@ -127,16 +145,9 @@ const VOLUMES: [(&str, &str, usize); 4] = [
     ("volume 50 of 49", "50", 49),
 ];
 
-// The good text with bytes at a place replaced by others.
-fn changed(heap: Global, at: usize, cut: usize, with: &str) -> Result<String, AllocError> {
-    let front = GOOD.get(..at).unwrap_or("");
-    let back = GOOD.get(at.saturating_add(cut)..).unwrap_or("");
-    [front, with, back].concat(heap)
-}
-
 // Lines of the good text, one behind another.
-fn ordered(heap: Global, lines: &[usize]) -> Result<String, AllocError> {
-    let mut text = String::new(heap);
+fn ordered(alloc: Global, lines: &[usize]) -> Result<String, AllocError> {
+    let mut text = String::new(alloc);
     for k in lines {
         text.push_str(GOOD.split_inclusive('\n').nth(*k).unwrap_or(""))?;
     }
@@ -152,29 +163,24 @@ fn offered(line: &mut LineTransport, text: &str) -> Result<(), Refusal> {
 // Takes a text into a new transport, and tells what came of it.
 fn offer(rt: &HostRuntime, name: &str, chosen: Settings, text: &str) -> anyhow::Result<()> {
     let mut line = LineTransport::new(rt.alloc(), chosen)?;
-    print!(rt; "{name}: ")?;
-    match offered(&mut line, text) {
-        Ok(()) => print!(rt; "taken")?,
-        Err(refusal) => show_refusal(rt, refusal)?,
+    let answer = offered(&mut line, text);
+    let blank = yes(is_blank(&line));
+    match answer {
+        Ok(()) => println!(rt; "{name}: taken blank={blank}")?,
+        Err(refusal) => println!(rt; "{name}: {} blank={blank}", Refused(refusal))?,
     }
-    println!(rt; " blank={}", yes(is_blank(&line)))?;
     Ok(())
 }
 
-fn change(rt: &HostRuntime, name: &str, at: usize, cut: usize, with: &str) -> anyhow::Result<()> {
-    let text = changed(rt.alloc(), at, cut, with)?;
-    offer(rt, name, USUAL, text.as_str())
-}
-
 fn changes(rt: &HostRuntime, cases: &[Change]) -> anyhow::Result<()> {
-    for (name, at, cut, with) in cases {
-        change(rt, name, *at, *cut, with)?;
+    for case in cases {
+        offer(rt, case.0, USUAL, case.text(rt.alloc())?.as_str())?;
     }
     Ok(())
 }
 
 fn sizes(rt: &HostRuntime) -> anyhow::Result<()> {
-    let front = GOOD.get(..E + SIZE).unwrap_or("");
+    let front = GOOD.get(..FIFTH + SIZE).unwrap_or("");
     for (name, size, digits) in SIZES {
         let text = format!(in rt.alloc(); "{front}{size} hex={:0digits$}\n", 0)?;
         offer(rt, name, USUAL, text.as_str())?;
@@ -196,7 +202,7 @@ fn orders(rt: &HostRuntime) -> anyhow::Result<()> {
 
 fn volumes(rt: &HostRuntime) -> anyhow::Result<()> {
     for (name, digits, volumes) in VOLUMES {
-        let text = changed(rt.alloc(), F + VOLUME, 2, digits)?;
+        let text = Change(name, SIXTH + VOLUME, 2, digits).text(rt.alloc())?;
         offer(rt, name, Settings { volumes, ..USUAL }, text.as_str())?;
     }
     Ok(())

@@ -1,21 +1,12 @@
-//! What the cases share: the usual settings, and what is printed.
-use case_words::answer::Answer;
+//! What the cases share: what is printed, and steps that several take.
+use case_words::answer::{Answer, yes};
 use line::line_transport::LineTransport;
-use line::settings::Settings;
-use std::{fmt, io};
-use tape::bounds::{LAST_MARKER, MOST_ITEMS};
+use std::fmt;
+use tape::bounds::MOST_ITEMS;
 use tape::item::Kind;
 use tape::place::Place;
 use tape::refusal::Refusal;
 use tape::transport::{Fault, Transport};
-
-/// Settings that leave room for most cases, which change one or two of them.
-pub(crate) const USUAL: Settings = Settings {
-    tracks: 2,
-    volumes: 2,
-    marker: LAST_MARKER,
-    room: 4096,
-};
 
 /// A place in short.
 #[derive(Clone, Copy)]
@@ -29,14 +20,41 @@ impl fmt::Display for At {
 }
 
 /// Why a call was refused, by which layer, and the place that the refusal speaks of.
-pub(crate) fn show_refusal(rt: &HostRuntime, refusal: Refusal) -> io::Result<()> {
-    let reason = refusal.reason;
-    print!(rt;
-        "refused={} layer={} place={}",
-        reason.number(),
-        reason.layer(),
-        At(refusal.place)
-    )
+#[derive(Clone, Copy)]
+pub(crate) struct Refused(pub(crate) Refusal);
+
+impl fmt::Display for Refused {
+    fn fmt<W: fmt::Write>(&self, f: &mut fmt::Formatter<W>) -> fmt::Result {
+        let Refusal { reason, place } = self.0;
+        write!(
+            f,
+            "refused={} layer={} place={}",
+            reason.number(),
+            reason.layer(),
+            At(place)
+        )
+    }
+}
+
+/// Whether a text was taken, and whether the transport then hands out the same.
+#[derive(Clone, Copy)]
+pub(crate) struct Taking {
+    taken: bool,
+    same: bool,
+}
+
+impl fmt::Display for Taking {
+    fn fmt<W: fmt::Write>(&self, f: &mut fmt::Formatter<W>) -> fmt::Result {
+        write!(f, "taken={} same={}", yes(self.taken), yes(self.same))
+    }
+}
+
+/// Takes a text.
+pub(crate) fn take(line: &mut LineTransport, text: &[u8]) -> Taking {
+    Taking {
+        taken: line.take(text).is_ok(),
+        same: line.text() == text,
+    }
 }
 
 fn kind_word(kind: Kind) -> &'static str {
@@ -62,6 +80,17 @@ fn passes(line: &mut LineTransport) -> bool {
 }
 
 /// Passes the items that the head's track still has, and counts them.
-pub(crate) fn to_end(line: &mut LineTransport) -> usize {
-    (0..MOST_ITEMS).take_while(|_| passes(line)).count()
+pub(crate) fn pass_all(line: &mut LineTransport) -> usize {
+    for passed in 0..MOST_ITEMS {
+        if !passes(line) {
+            return passed;
+        }
+    }
+    MOST_ITEMS
+}
+
+/// The items of a track, which are passed.
+pub(crate) fn pass_track(line: &mut LineTransport, k: usize) -> usize {
+    let _ = line.seek_track(k);
+    pass_all(line)
 }

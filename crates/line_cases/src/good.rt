@@ -1,7 +1,8 @@
 //! Texts that must be taken: each is handed out again byte for byte, its tracks with items count as
 //! marked with their eight writes taken, and a blank track is as new.
-use crate::common::{USUAL, to_end};
+use crate::common::{pass_all, pass_track, take};
 use case_words::answer::{Answer, written, yes};
+use case_words::settings::USUAL;
 use line::line_transport::LineTransport;
 use line::settings::Settings;
 use std::io;
@@ -30,8 +31,7 @@ const THREE_VOLUMES: Settings = Settings {
 // Of each track: how many items it has, and whether its marker is met.
 fn show_tracks(rt: &HostRuntime, line: &mut LineTransport) -> io::Result<()> {
     for k in 0..line.all_tracks() {
-        let _ = line.seek_track(k);
-        let items = to_end(line);
+        let items = pass_track(line, k);
         let marked = if line.marked() { "m" } else { "" };
         print!(rt; " {items}{marked}")?;
     }
@@ -43,15 +43,13 @@ fn one_more(line: &mut LineTransport, k: usize) -> Answer {
     if !line.seek_track(k) {
         return Answer(Ok("no track"));
     }
-    let _ = to_end(line);
+    let _ = pass_all(line);
     written(line.write(ItemRef::Mark))
 }
 
 fn good(rt: &HostRuntime, name: &str, text: &[u8], last: usize) -> anyhow::Result<()> {
     let mut line = LineTransport::new(rt.alloc(), THREE_VOLUMES)?;
-    let taken = yes(line.take(text).is_ok());
-    let same = yes(line.text() == text);
-    print!(rt; "{name}: taken={taken} same={same} tracks")?;
+    print!(rt; "{name}: {} tracks", take(&mut line, text))?;
     show_tracks(rt, &mut line)?;
     let on_last = one_more(&mut line, last);
     let still = yes(line.text() == text);

@@ -1,6 +1,7 @@
 //! The head on its way over tracks and volumes.
-use crate::common::{At, USUAL, passed, seen};
-use case_words::answer::{found, moved, written, yes};
+use crate::common::{At, passed, seen};
+use case_words::answer::{Answer, found, moved, written, yes};
+use case_words::settings::USUAL;
 use line::line_transport::LineTransport;
 use line::settings::Settings;
 use std::io;
@@ -9,51 +10,52 @@ use tape::transport::Transport;
 
 // A transport whose head is moved, and where each move is told.
 #[derive(Drop)]
-struct Head<'a> {
+struct Moves<'a> {
     rt: &'a HostRuntime,
     line: LineTransport,
 }
 
-impl Head<'_> {
+impl Moves<'_> {
     // Where the head stands, and what comes next there.
     fn here(&mut self) -> io::Result<()> {
         let look = seen(self.line.look());
         println!(self.rt; " at {} look={look}", At(self.line.place()))
     }
 
+    // What a call came to, which is made before: a closure would borrow the line beside the handle.
+    fn step(&mut self, call: &str, name: &str, word: Answer) -> io::Result<()> {
+        print!(self.rt; "{call} {name}: {word}")?;
+        self.here()
+    }
+
     fn next(&mut self, name: &str) -> io::Result<()> {
         let word = moved(self.line.next_track());
-        print!(self.rt; "next track {name}: {word}")?;
-        self.here()
+        self.step("next track", name, word)
+    }
+
+    fn follow(&mut self, name: &str) -> io::Result<()> {
+        let word = found(self.line.following());
+        self.step("following", name, word)
+    }
+
+    fn rewind(&mut self, name: &str) -> io::Result<()> {
+        let word = moved(self.line.rewind());
+        self.step("rewind", name, word)
+    }
+
+    fn write(&mut self, name: &str) -> io::Result<()> {
+        let word = written(self.line.write(ItemRef::Mark));
+        self.step("write", name, word)
+    }
+
+    fn pass(&mut self, name: &str) -> io::Result<()> {
+        let word = passed(self.line.read(&mut [0; 256]));
+        self.step("read", name, word)
     }
 
     fn mount(&mut self, name: &str) -> io::Result<()> {
         let word = moved(self.line.mount());
         print!(self.rt; "mount {name}: {word} tracks={}", self.line.all_tracks())?;
-        self.here()
-    }
-
-    fn follow(&mut self, name: &str) -> io::Result<()> {
-        let word = found(self.line.following());
-        print!(self.rt; "following {name}: {word}")?;
-        self.here()
-    }
-
-    fn rewind(&mut self, name: &str) -> io::Result<()> {
-        let word = moved(self.line.rewind());
-        print!(self.rt; "rewind {name}: {word}")?;
-        self.here()
-    }
-
-    fn write(&mut self, name: &str) -> io::Result<()> {
-        let word = written(self.line.write(ItemRef::Mark));
-        print!(self.rt; "write {name}: {word}")?;
-        self.here()
-    }
-
-    fn pass(&mut self, name: &str) -> io::Result<()> {
-        let word = passed(self.line.read(&mut [0; 256]));
-        print!(self.rt; "read {name}: {word}")?;
         self.here()
     }
 
@@ -107,10 +109,10 @@ impl Head<'_> {
 
 pub(crate) fn run(rt: &HostRuntime) -> anyhow::Result<()> {
     let line = LineTransport::new(rt.alloc(), USUAL)?;
-    let mut head = Head { rt, line };
-    head.tracks()?;
-    head.volumes()?;
-    head.line = LineTransport::new(rt.alloc(), Settings { tracks: 1, ..USUAL })?;
-    head.mounts()?;
+    let mut moves = Moves { rt, line };
+    moves.tracks()?;
+    moves.volumes()?;
+    moves.line = LineTransport::new(rt.alloc(), Settings { tracks: 1, ..USUAL })?;
+    moves.mounts()?;
     Ok(())
 }

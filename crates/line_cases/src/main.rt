@@ -1,5 +1,5 @@
-//! Cases of the line transport, one printed line each: texts that must be refused, texts that must
-//! be taken, settings, room, marker, head, reads, and long tapes.
+//! Cases of the line transport: texts that must be refused, texts that must be taken, settings, room,
+//! marker, head, reads, a round trip, and long tapes. Each case prints what came of it.
 #![tactic(auto)]
 
 mod bad;

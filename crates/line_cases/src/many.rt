@@ -1,6 +1,7 @@
 //! Many items and many volumes, so that every digit of a line's numbers is used.
-use crate::common::USUAL;
-use case_words::answer::{moved, yes};
+use crate::common::take;
+use case_words::answer::moved;
+use case_words::settings::USUAL;
 use line::line_transport::LineTransport;
 use line::settings::Settings;
 use line_text::lines::{block_head_of, head_of};
@@ -31,18 +32,20 @@ fn show_last(rt: &HostRuntime, line: &LineTransport) -> anyhow::Result<()> {
 
 // Marks until one is not taken, and how many are.
 fn marks(line: &mut LineTransport, n: usize) -> usize {
-    (0..n)
-        .take_while(|_| line.write(ItemRef::Mark).is_ok())
-        .count()
+    for taken in 0..n {
+        if line.write(ItemRef::Mark).is_err() {
+            return taken;
+        }
+    }
+    n
 }
 
 fn items(rt: &HostRuntime) -> anyhow::Result<()> {
     let mut from = LineTransport::new(rt.alloc(), ITEMS)?;
     let written = marks(&mut from, 123);
     let mut to = LineTransport::new(rt.alloc(), ITEMS)?;
-    let taken = yes(to.take(from.text()).is_ok());
-    let same = yes(to.text() == from.text());
-    println!(rt; "many items: {written} taken={taken} same={same}")?;
+    let taking = take(&mut to, from.text());
+    println!(rt; "many items: {written} {taking}")?;
     show_last(rt, &from)
 }
 

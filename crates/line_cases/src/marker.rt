@@ -1,16 +1,11 @@
 //! The marker: which write meets it, and what a track takes behind it.
-use crate::common::USUAL;
 use case_words::answer::{moved, written, yes};
+use case_words::settings::USUAL;
 use line::line_transport::LineTransport;
 use line::settings::Settings;
 use std::io;
 use tape::item::ItemRef;
 use tape::transport::Transport;
-
-fn with_marker(rt: &HostRuntime, marker: usize) -> anyhow::Result<LineTransport> {
-    let chosen = Settings { marker, ..USUAL };
-    Ok(LineTransport::new(rt.alloc(), chosen)?)
-}
 
 fn marks(rt: &HostRuntime, line: &mut LineTransport, n: usize) -> io::Result<()> {
     for _ in 0..n {
@@ -18,12 +13,12 @@ fn marks(rt: &HostRuntime, line: &mut LineTransport, n: usize) -> io::Result<()>
         let marked = yes(line.marked());
         print!(rt; " {word}/{marked}")?;
     }
-    println!(rt; "")
+    println!(rt)
 }
 
 // The answer of each write, and whether the marker is met behind it.
 fn met(rt: &HostRuntime, marker: usize, n: usize) -> anyhow::Result<()> {
-    let mut line = with_marker(rt, marker)?;
+    let mut line = LineTransport::new(rt.alloc(), Settings { marker, ..USUAL })?;
     print!(rt; "marker {marker}:")?;
     marks(rt, &mut line, n)?;
     let bytes = line.text().len();
@@ -51,14 +46,20 @@ fn blocks(rt: &HostRuntime, line: &mut LineTransport) -> io::Result<()> {
 }
 
 fn sizes(rt: &HostRuntime) -> anyhow::Result<()> {
-    let mut line = with_marker(rt, 10)?;
+    let mut line = LineTransport::new(
+        rt.alloc(),
+        Settings {
+            marker: 10,
+            ..USUAL
+        },
+    )?;
     println!(rt; "before the marker:")?;
     blocks(rt, &mut line)?;
     Ok(())
 }
 
 fn sizes_behind(rt: &HostRuntime) -> anyhow::Result<()> {
-    let mut line = with_marker(rt, 3)?;
+    let mut line = LineTransport::new(rt.alloc(), Settings { marker: 3, ..USUAL })?;
     print!(rt; "behind the marker:")?;
     marks(rt, &mut line, 3)?;
     blocks(rt, &mut line)?;

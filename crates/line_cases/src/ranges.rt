@@ -1,5 +1,5 @@
 //! Settings out of their range, one by one, and the edges that are taken.
-use crate::common::show_refusal;
+use crate::common::Refused;
 use case_words::answer::yes;
 use case_words::blank::is_blank;
 use line::line_transport::LineTransport;
@@ -19,50 +19,36 @@ fn range(rt: &HostRuntime, name: &str, value: usize, chosen: Settings) -> io::Re
     print!(rt; "{name} {value}: ")?;
     match LineTransport::new(rt.alloc(), chosen) {
         Ok(line) => println!(rt; "made blank={}", yes(is_blank(&line))),
-        Err(SetupError::Refused(refusal)) => {
-            show_refusal(rt, refusal)?;
-            println!(rt; "")
-        }
+        Err(SetupError::Refused(refusal)) => rt.println(Refused(refusal)),
         Err(error) => rt.println(error),
     }
 }
 
-fn tracks(rt: &HostRuntime, tracks: usize) -> io::Result<()> {
-    range(rt, "tracks", tracks, Settings { tracks, ..SMALL })
-}
-
-fn volumes(rt: &HostRuntime, volumes: usize) -> io::Result<()> {
-    range(rt, "volumes", volumes, Settings { volumes, ..SMALL })
-}
-
-fn marker(rt: &HostRuntime, marker: usize) -> io::Result<()> {
-    range(rt, "marker", marker, Settings { marker, ..SMALL })
-}
-
-fn room(rt: &HostRuntime, room: usize) -> io::Result<()> {
-    range(rt, "room", room, Settings { room, ..SMALL })
-}
-
-fn outside(rt: &HostRuntime) -> io::Result<()> {
-    tracks(rt, 0)?;
-    tracks(rt, 3)?;
-    volumes(rt, 0)?;
-    volumes(rt, 50)?;
-    marker(rt, 2)?;
-    marker(rt, 60001)
-}
-
-fn edges(rt: &HostRuntime) -> io::Result<()> {
-    tracks(rt, 1)?;
-    tracks(rt, 2)?;
-    volumes(rt, 1)?;
-    volumes(rt, 49)?;
-    marker(rt, 3)?;
-    marker(rt, 60000)?;
-    room(rt, 0)
+// Each of these values of one setting, with `set` to choose it.
+fn values<F: Fn(usize) -> Settings>(
+    rt: &HostRuntime,
+    name: &str,
+    values: &[usize],
+    set: F,
+) -> io::Result<()>
+    requires { F.IsAlwaysCallable set }
+{
+    for value in values {
+        range(rt, name, *value, set(*value))?;
+    }
+    Ok(())
 }
 
 pub(crate) fn run(rt: &HostRuntime) -> io::Result<()> {
-    outside(rt)?;
-    edges(rt)
+    let tracks = |tracks| Settings { tracks, ..SMALL };
+    let volumes = |volumes| Settings { volumes, ..SMALL };
+    let marker = |marker| Settings { marker, ..SMALL };
+    let room = |room| Settings { room, ..SMALL };
+    values(rt, "tracks", &[0, 3], &tracks)?;
+    values(rt, "volumes", &[0, 50], &volumes)?;
+    values(rt, "marker", &[2, 60001], &marker)?;
+    values(rt, "tracks", &[1, 2], &tracks)?;
+    values(rt, "volumes", &[1, 49], &volumes)?;
+    values(rt, "marker", &[3, 60000], &marker)?;
+    values(rt, "room", &[0], &room)
 }

@@ -1,13 +1,14 @@
 //! Reads into buffers that are too short, just long enough, and longer.
-use crate::common::{USUAL, passed, seen};
+use crate::common::{passed, seen};
 use case_words::answer::{written, yes};
+use case_words::settings::USUAL;
 use line::line_transport::LineTransport;
 use std::io;
 use tape::item::{ItemRef, Kind};
 use tape::transport::Transport;
 
 // A block's size, and 0 of anything else.
-fn size_of(kind: Option<Kind>) -> usize {
+fn block_size(kind: Option<Kind>) -> usize {
     match kind {
         Some(Kind::Block(size)) => size,
         _ => 0,
@@ -24,12 +25,12 @@ fn read(
     let room = buffer.len();
     let answer = line.read(buffer);
     let word = passed(answer);
-    let size = size_of(answer.ok());
+    let size = block_size(answer.ok());
     let holds = yes(*buffer == *wanted);
     let item = line.place().item;
     let next = line.look();
     let look = seen(next);
-    let ahead = size_of(next.ok().flatten());
+    let ahead = block_size(next.ok().flatten());
     println!(rt;
         "buffer of {room}: {word} size={size} holds={holds} item={item} look={look} size={ahead}"
     )

@@ -1,21 +1,19 @@
 //! Room: a write fails exactly where its line does not fit, and from then on all but the questions
 //! is turned down.
-use crate::common::{At, USUAL, passed, seen};
+use crate::common::{At, passed, seen};
 use case_words::answer::{found, moved, written, yes};
 use case_words::blank::FRONT;
+use case_words::settings::USUAL;
+use case_words::status::StatusWords;
 use line::line_transport::LineTransport;
 use line::settings::Settings;
 use std::io;
 use tape::item::ItemRef;
+use tape::status::Status;
 use tape::transport::Transport;
 
 const TWO_MARKS: &[u8] = b"vol=01 track=1 item=00001 kind=mark\n\
 vol=01 track=1 item=00002 kind=mark\n";
-
-fn with_room(rt: &HostRuntime, room: usize) -> anyhow::Result<LineTransport> {
-    let chosen = Settings { room, ..USUAL };
-    Ok(LineTransport::new(rt.alloc(), chosen)?)
-}
 
 fn calls(rt: &HostRuntime, line: &mut LineTransport) -> io::Result<()> {
     let write = written(line.write(ItemRef::Mark));
@@ -30,17 +28,13 @@ fn calls(rt: &HostRuntime, line: &mut LineTransport) -> io::Result<()> {
 }
 
 fn questions(rt: &HostRuntime, line: &LineTransport) -> io::Result<()> {
-    let place = At(line.place());
-    let tracks = line.tracks();
-    let marked = yes(line.marked());
-    let failed = yes(line.failed());
-    let items = yes(line.has_items());
-    println!(rt; "  place={place} tracks={tracks} marked={marked} failed={failed} items={items}")
+    let status = Status::of(line);
+    println!(rt; "  place={} {}", At(status.place), StatusWords(status))
 }
 
 // Marks until one fails, then each function, and what the tape still has.
 fn filled(rt: &HostRuntime, room: usize) -> anyhow::Result<()> {
-    let mut line = with_room(rt, room)?;
+    let mut line = LineTransport::new(rt.alloc(), Settings { room, ..USUAL })?;
     print!(rt; "room {room}, three marks:")?;
     for _ in 0..3 {
         print!(rt; " {}", written(line.write(ItemRef::Mark)))?;
@@ -54,7 +48,7 @@ fn filled(rt: &HostRuntime, room: usize) -> anyhow::Result<()> {
 }
 
 fn block(rt: &HostRuntime, room: usize, bytes: &[u8]) -> anyhow::Result<()> {
-    let mut line = with_room(rt, room)?;
+    let mut line = LineTransport::new(rt.alloc(), Settings { room, ..USUAL })?;
     let size = bytes.len();
     let word = written(line.write(ItemRef::Block(bytes)));
     let failed = yes(line.failed());
@@ -65,7 +59,7 @@ fn block(rt: &HostRuntime, room: usize, bytes: &[u8]) -> anyhow::Result<()> {
 
 // A write that cannot apply is turned down where its line would not fit either.
 fn down_first(rt: &HostRuntime) -> anyhow::Result<()> {
-    let mut line = with_room(rt, 10)?;
+    let mut line = LineTransport::new(rt.alloc(), Settings { room: 10, ..USUAL })?;
     let empty = written(line.write(ItemRef::Block(b"")));
     let failed = yes(line.failed());
     let mark = written(line.write(ItemRef::Mark));
@@ -75,7 +69,7 @@ fn down_first(rt: &HostRuntime) -> anyhow::Result<()> {
 
 // A text that is taken ends the failure.
 fn taken_after(rt: &HostRuntime) -> anyhow::Result<()> {
-    let mut line = with_room(rt, 72)?;
+    let mut line = LineTransport::new(rt.alloc(), Settings { room: 72, ..USUAL })?;
     for _ in 0..3 {
         let _ = line.write(ItemRef::Mark);
     }

@@ -1,6 +1,7 @@
 //! A round trip: what is written on two tracks of two volumes is handed out as text, and taken again.
-use crate::common::{USUAL, to_end};
+use crate::common::{pass_track, take};
 use case_words::answer::yes;
+use case_words::settings::USUAL;
 use line::line_transport::LineTransport;
 use std::io;
 use std::str::from_utf8;
@@ -41,19 +42,16 @@ fn write(rt: &HostRuntime, line: &mut LineTransport) -> anyhow::Result<()> {
 fn tracks(rt: &HostRuntime, line: &mut LineTransport) -> io::Result<()> {
     print!(rt; "taken again, items:")?;
     for k in 0..line.all_tracks() {
-        let _ = line.seek_track(k);
-        print!(rt; " {}", to_end(line))?;
+        print!(rt; " {}", pass_track(line, k))?;
     }
-    println!(rt; "")
+    println!(rt)
 }
 
 pub(crate) fn run(rt: &HostRuntime) -> anyhow::Result<()> {
     let mut from = LineTransport::new(rt.alloc(), USUAL)?;
     write(rt, &mut from)?;
     let mut to = LineTransport::new(rt.alloc(), USUAL)?;
-    let taken = yes(to.take(from.text()).is_ok());
-    let same = yes(to.text() == from.text());
-    println!(rt; "taken again: taken={taken} same={same}")?;
+    println!(rt; "taken again: {}", take(&mut to, from.text()))?;
     tracks(rt, &mut to)?;
     Ok(())
 }

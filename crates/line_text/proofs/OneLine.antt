@@ -1,11 +1,12 @@
 -- An item read off its own line is that item. Assumes nothing.
-use Rattle.std.proofs.Common.{◌≡◌, ℕ, zero, suc, ◌+◌, ◌-◌, ◌*◌, ◌/◌, ◌%◌, ◌<◌, ◌≤◌, Bool, true, cond, ◌&&◌, ltb, leb, List, [], ◌∷◌, ◌++◌, length, get_or, drop, refl, ap, ◌∙◌, append_assoc, arith, length-append, ltb-true, lt-ltb, leb-true}
+use Rattle.std.proofs.Common.{◌≡◌, ℕ, zero, suc, ◌+◌, ◌-◌, ◌*◌, ◌/◌, ◌%◌, ◌^◌, min, ◌<◌, ◌≤◌, Bool, true, cond, ◌&&◌, ltb, leb, List, [], ◌∷◌, ◌++◌, length, get_or, drop, refl, ap, ◌∙◌, append_assoc, arith, length-append, ltb-true, lt-ltb, leb-true}
 use Rattle.std.proofs.lemmas.Bool.{and_parts, and_from}
+use Rattle.tape.specs.declared.item.Kind.{Kind}
 use Rattle.tape.specs.declared.item.Kind.TheVariants as told
 use Rattle.tape.specs.Tape.{fits_in, filled}
 use Rattle.tape.specs.Items.{Item, mark, block, proper, kind_of}
 use Rattle.figures.specs.Hex.{hex_digit}
-use Rattle.line_text.specs.Lines.{line, line_head, line_tail, block_head, line_size, hex_value, hexed, unhexed, is_mark, size_in, kind_in, item_in, size_of_line_in, small, small_item}
+use Rattle.line_text.specs.Lines.{line, line_head, line_tail, block_head, line_size, size_of_kind, hex_value, hexed, unhexed, is_mark, size_in, kind_in, item_in, size_of_line_in, small, small_item}
 
 pub length_hexed : (bs : List ℕ) → length (hexed bs) ≡ 2 * length bs
 length_hexed [] = refl
@@ -82,15 +83,20 @@ bytes_of_own_line : (v t n : ℕ) (bs rest : List ℕ) → small bs ≡ true →
 unfolding line line_head line_tail block_head
 bytes_of_own_line v t n bs rest s = ap (unhexed (length bs)) (append_assoc (hexed bs) (10 ∷ []) rest) ∙ unhexed_hexed bs (10 ∷ rest) s
 
+-- a mark has no bytes to copy
+pub none_to_copy : (i : Item) (buffer : List ℕ) → kind_of i ≡ told.Mark → (true ≡ fits_in i buffer) × (buffer ≡ filled buffer i)
+none_to_copy mark buffer k = (refl, refl)
+none_to_copy (block bs) buffer k = absurd cc
+
 -- what a block's bytes do to a buffer, told from its line
 pub copied_from_line : (v t n : ℕ) (i : Item) (rest buffer : List ℕ) (size : ℕ) → kind_of i ≡ told.Block size → proper i ≡ true → small_item i ≡ true → ((leb size (length buffer) && leb size 256) ≡ fits_in i buffer) × (unhexed size (drop 50 (line v t n i ++ rest)) ++ drop size buffer ≡ filled buffer i)
 copied_from_line v t n mark rest buffer size k p s = grind arith
 copied_from_line v t n (block bs) rest buffer size k p s = grind (arith, few_bytes bs, bytes_of_own_line v t n bs rest)
 
--- a line's length by the kind of its item
-pub block_size : (i : Item) (size : ℕ) → kind_of i ≡ told.Block size → proper i ≡ true → (line_size i ≡ 51 + 2 * size) × (size ≤ 256)
-block_size mark size e p = grind arith
-block_size (block bs) size e p = grind (arith, few_bytes bs)
+-- a line's length by the kind of its item, which is far below the largest number
+pub size_by_kind : (i : Item) (k : Kind) → kind_of i ≡ k → proper i ≡ true → min (size_of_kind k) (2 ^ 64 - 1) ≡ line_size i
+size_by_kind mark k e p = grind arith
+size_by_kind (block bs) k e p = grind (arith, few_bytes bs)
 
 -- what a line tells, by its kind
 pub mark_told : (bs : List ℕ) → told.Mark ≡ kind_in bs → item_in bs ≡ mark

@@ -46,6 +46,11 @@ abbrev pub line_size : Item → ℕ
 line_size mark = 36
 line_size (block bs) = 51 + 2 * length bs
 
+-- and by the kind of the item
+abbrev pub size_of_kind : Kind → ℕ
+size_of_kind told.Mark = 36
+size_of_kind (told.Block n) = 51 + 2 * n
+
 -- Reading a line takes each field from its place in the line, whatever stands around it:
 -- whether it was a whole and lawful line is seen by writing it again.
 abbrev pub digit_value : ℕ → ℕ

@@ -1,11 +1,18 @@
 //! The parts of a line, written and read.
-ghost use Rattle.std.specs.Prelude.{◌≡◌, ◌+◌, ◌*◌, ◌<◌, ◌&&◌, List, [], ◌∷◌, ◌++◌, length, drop, if◌then◌else◌, nat_le, slice_index};
-ghost use Rattle.tape.specs.Items.{item_of};
-ghost use Rattle.line_text.specs.Lines.{line_head, block_head, line_size, digit_value, hex_value, byte_in, kind_in, volume_in, track_in, unhexed};
+ghost use Rattle.std.specs.Prelude.{◌≡◌, ◌+◌, ◌*◌, ◌<◌, ◌&&◌, ◌++◌, ◌-◌, ◌^◌, min, length, drop, nat_le, slice_index, is_some, MatchOption};
+ghost use Rattle.tape.specs.Items.{item_of, longest_block};
+ghost use Rattle.line_text.specs.Lines.{line_head, block_head, line_size, size_of_kind, digit_value, hex_value, byte_in, kind_in, volume_in, track_in, unhexed};
 
 use figures::decimal::decimal;
+use tape::bounds::LONGEST_BLOCK;
 use tape::item::{ItemRef, Kind};
 use tape::place::Place;
+
+/// The bytes of a mark's line.
+pub const MARK_SIZE: usize = 36;
+
+/// The bytes of a block's line, but for its hex digits.
+pub const BLOCK_SIZE: usize = 51;
 
 /// The 31 bytes that begin every line: the item's place, and `kind=`.
 #[tactic(auto, unfolding(crate::specs::Lines::line_head))]
@@ -34,12 +41,23 @@ pub fn fits(item: ItemRef<'_>, left: usize) -> bool
     ensures { result ≡ nat_le (line_size (item_of item.entry)) left }
 {
     match item {
-        ItemRef::Mark => 36 <= left,
-        ItemRef::Block(bytes) => 51 <= left && bytes.len() <= (left - 51) / 2,
+        ItemRef::Mark => MARK_SIZE <= left,
+        ItemRef::Block(bytes) => BLOCK_SIZE <= left && bytes.len() <= (left - BLOCK_SIZE) / 2,
     }
 }
 
-// A byte of a line, 0 past its end.
+/// The bytes of the line of an item of this kind, up to the largest number, which no block reaches.
+pub fn size_of_line(kind: Kind) -> usize
+    ensures { result ≡ min (size_of_kind kind) (2 ^ 64 - 1) }
+{
+    match kind {
+        Kind::Mark => MARK_SIZE,
+        Kind::Block(size) => size.saturating_mul(2).saturating_add(BLOCK_SIZE),
+    }
+}
+
+// A byte of a line, 0 past its end. A line is any bytes, read by their columns: a type of its own
+// would have no invariant, so these are functions of the bytes.
 fn at(line: &[u8], i: usize) -> u8
     ensures { result ≡ slice_index line.now i }
 {
@@ -88,7 +106,7 @@ fn hex_at(line: &[u8], i: usize) -> u8
 {
     let c = at(line, i);
     if b'A' <= c {
-        (c - 55) % 16
+        (c - (b'A' - 10)) % 16
     } else {
         c.saturating_sub(b'0') % 16
     }
@@ -96,24 +114,42 @@ fn hex_at(line: &[u8], i: usize) -> u8
 
 // A byte of a line's block.
 fn byte_at(line: &[u8], i: usize) -> u8
-    requires { i < 256 }
+    requires { i < longest_block }
     ensures { result ≡ byte_in line.now i }
 {
     16 * hex_at(line, 50 + 2 * i) + hex_at(line, 51 + 2 * i)
 }
 
 /// Copies the first `size` bytes of a line's block to the front of a buffer, where they fit and
-/// no block is longer; the other bytes of the buffer stay. Tells whether it did.
+/// no block is longer; the other bytes of the buffer stay. `None` where they do not, and the whole
+/// buffer stays.
 #[tactic(auto, using(crate::proofs::Hex::copied_more))]
-pub fn copy_block(line: &[u8], size: usize, out: &mut [u8]) -> bool
-    ensures told { result ≡ (nat_le size (length out.old) && nat_le size 256) }
-    ensures bytes { out.new ≡ (if result then unhexed size (drop 50 line.now) ++ drop size out.old else out.old) }
+pub fn copy_block(line: &[u8], size: usize, out: &mut [u8]) -> Option<()>
+    ensures told { is_some result ≡ (nat_le size (length out.old) && nat_le size longest_block) }
+    ensures bytes { MatchOption result (out.new ≡ out.old) (λ _. out.new ≡ unhexed size (drop 50 line.now) ++ drop size out.old) }
 {
-    if size > out.len() || size > 256 {
-        return false;
+    if size > out.len() || size > LONGEST_BLOCK {
+        return None;
     }
     for (i, b) in out[..size].iter_mut().enumerate() {
         *b = byte_at(line, i);
     }
-    true
+    Some(())
+}
+
+#[cfg(test)]
+mod tests {
+    use super::*;
+
+    #[test]
+    fn has_two_digits_for_each_byte_of_a_block(rt: HostRuntime) {
+        for (kind, size) in [
+            (Kind::Mark, 36),
+            (Kind::Block(1), 53),
+            (Kind::Block(256), 563),
+            (Kind::Block(usize::MAX), usize::MAX),
+        ] {
+            assert_eq!(rt; size_of_line(kind), size, "size of the line of {kind:?}");
+        }
+    }
 }

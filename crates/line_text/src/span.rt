@@ -3,6 +3,8 @@ ghost use Rattle.std.specs.Prelude.{◌≡◌, ◌==◌, if◌then◌else◌};
 ghost use Rattle.line_text.specs.Layout.{blank_span, is_marked};
 ghost use Rattle.line_text.specs.Spans.{one_more, span_after, recorded_span};
 
+use tape::bounds::WRITES_AFTER;
+
 /// A track: where its first line begins, how many items it has and, once its marker is met, the
 /// writes taken since. Of a blank track the beginning says nothing.
 #[derive(Clone, Copy)]
@@ -64,7 +66,7 @@ impl Span {
         ensures { result ≡ recorded_span self end }
     {
         Span {
-            since: Some(8),
+            since: Some(WRITES_AFTER),
             ..self.longer(end)
         }
     }

@@ -1,9 +1,8 @@
 -- A sound tape stays sound under every run of functions, and a fresh one is sound. Assumes nothing.
-use Rattle.std.proofs.Common.{◌≡◌, ℕ, ◌%◌, ◌≤◌, true, ◌&&◌, leb, [], ◌∷◌, length, replicate, ap, ◌∙◌, zero-le, arith, leb-true}
+use Rattle.std.proofs.Common.{◌≡◌, ℕ, ◌%◌, [], ◌∷◌, length, replicate, ap, ◌∙◌, zero-le, arith}
 use native.Mathlib.Nat.{mod_self, div_self}
 use lib.ListN.{length-replicate}
-use Rattle.std.proofs.lemmas.Bool.{and_parts}
-use Rattle.tape.specs.Tape.{Tape, Choice, blank_track, fresh, most_tracks, most_volumes, lawful_size}
+use Rattle.tape.specs.Tape.{Tape, Choice, blank_track}
 use Rattle.tape.specs.Sound.{Sound}
 use Rattle.tape.specs.Runs.{Function, writes, goes_to_next_track, mounts, follows, rewinds, looks, reads, after, StaysSound, StartsSound}
 use Rattle.tape.proofs.Tracks.{blank_is_sound, every_replicate}

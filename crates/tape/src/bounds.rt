@@ -18,10 +18,19 @@ pub const FIRST_MARKER: usize = 3;
 /// The write of a track that meets its marker at the latest.
 pub const LAST_MARKER: usize = 60_000;
 
+/// The writes that a track takes behind its marker.
+pub const WRITES_AFTER: usize = 8;
+
+/// The bytes of a block, at most.
+pub const LONGEST_BLOCK: usize = 256;
+
+/// The bytes of a label, and so of a block behind a track's marker, at most.
+pub const LONGEST_LABEL: usize = 32;
+
 fn is_within(n: usize, most: usize) -> bool
     ensures { result ≡ (nat_le 1 n && nat_le n most) }
 {
-    1 <= n && n <= most
+    (1..=most).contains(&n)
 }
 
 /// Whether a set may have so many tracks to a volume and so many volumes. A new transport of such a

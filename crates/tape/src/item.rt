@@ -3,7 +3,10 @@ ghost use Rattle.std.specs.Prelude.{◌≡◌, is_some, unwrap_or};
 ghost use Rattle.tape.specs.Items.{item_of, proper, short};
 ghost use Rattle.tape.specs.Tape.{takes_item};
 
+use crate::bounds::{LONGEST_BLOCK, LONGEST_LABEL, WRITES_AFTER};
+
 /// An item that is given to be recorded; the bytes stay the caller's.
+// No Option, nor is Kind: None would not say that the item is a mark.
 #[derive(Clone, Copy)]
 pub enum ItemRef<'a> {
     Mark,
@@ -24,7 +27,7 @@ impl ItemRef<'_> {
     {
         match self {
             ItemRef::Mark => true,
-            ItemRef::Block(bytes) => 1 <= bytes.len() && bytes.len() <= 256,
+            ItemRef::Block(bytes) => (1..=LONGEST_BLOCK).contains(&bytes.len()),
         }
     }
 
@@ -34,17 +37,17 @@ impl ItemRef<'_> {
     {
         match self {
             ItemRef::Mark => true,
-            ItemRef::Block(bytes) => bytes.len() <= 32,
+            ItemRef::Block(bytes) => bytes.len() <= LONGEST_LABEL,
         }
     }
 
-    /// Whether a track takes it that has not met its marker, or has taken `since` writes since.
+    /// Whether a track takes it: one that has not met its marker, or that has taken so many writes since.
     pub fn is_taken(self, since: Option<usize>) -> bool
         ensures { result ≡ takes_item (is_some since) (unwrap_or since 0) (item_of self.entry) }
     {
         match since {
             None => self.is_proper(),
-            Some(since) => self.is_proper() && since < 8 && self.is_short(),
+            Some(since) => self.is_proper() && since < WRITES_AFTER && self.is_short(),
         }
     }
 }

@@ -1,6 +1,6 @@
 //! Refusals: why, where, and by which layer.
 ghost use Rattle.std.specs.Prelude.{◌≡◌, Some};
-ghost use Rattle.tape.specs.Refusals.{reason_number, reason_layer, layer_name, setup_words, nowhere};
+ghost use Rattle.tape.specs.Refusals.{reason_number, reason_layer, reason_words, layer_name, setup_words, nowhere};
 ghost use Rattle.tape.specs.declared.refusal.SetupError.TheVariants.{NoMemory};
 
 use crate::place::Place;
@@ -115,6 +115,7 @@ impl Error for SetupError {}
 
 impl Reason {
     /// The number by which users know the reason.
+    // A method and no From: `u8::from(reason)` would not say which number.
     pub fn number(self) -> u8
         ensures { result ≡ reason_number self }
     {
@@ -154,7 +155,40 @@ impl Reason {
         }
     }
 
+    /// What to look at where a call was refused for the reason.
+    pub fn words(self) -> &'static str
+        ensures { result.now ≡ reason_words self }
+    {
+        match self {
+            Reason::BlockSize => "a block must have 1 to 256 bytes",
+            Reason::Unlawful =>
+                "a field or a setting is unlawful, or the text is not whole items in order",
+            Reason::ShortBuffer => "the buffer is shorter than the block: give one of 256 bytes",
+            Reason::Missing => "an item, a track or a volume is missing: the set may be cut short",
+            Reason::MarkOutOfPlace => "a tape mark stands where a block must be",
+            Reason::BlockOutOfPlace => "a block stands where a tape mark must be",
+            Reason::BadLabel =>
+                "a label is not 32 bytes long, is unlawful, or is of a wrong kind here",
+            Reason::LabelDisagrees =>
+                "a label disagrees with its header, its volume or the order of sections",
+            Reason::CountDisagrees =>
+                "the count of a trailer is not the number of blocks in front of it",
+            Reason::DoesNotFit =>
+                "the call does not fit the state, as a block before its file is begun",
+            Reason::EmptyFile => "a Basic file must have a block before it is ended",
+            Reason::NoRoomForFile =>
+                "the last track has met its marker, so no Basic file can begin on it",
+            Reason::SectionFull => "a Compact section has 9999 blocks and takes no more",
+            Reason::NoVolume => "no volume is left that can be mounted",
+            Reason::Ended => "the set is closed, or reading has come to its end",
+            Reason::TransportFailed => "the transport failed: what it had recorded stays",
+            Reason::VolumeAwaited => "a volume is awaited: mount it before any other call",
+            Reason::CatalogueFull => "the catalogue has no free entry",
+        }
+    }
+
     /// This reason where there is no transport, so that the place is all zeros.
+    // A method and no From, which would hide the zeros.
     pub fn nowhere(self) -> Refusal
         ensures { result ≡ nowhere self }
     {
@@ -168,6 +202,16 @@ impl Reason {
         }
     }
 }
+
+impl fmt::Display for Reason {
+    ghost output = { λ reason. Some (reason_words reason) };
+
+    fn fmt<W: fmt::Write>(&self, f: &mut fmt::Formatter<W>) -> fmt::Result {
+        f.write_str(self.words())
+    }
+}
+
+impl Error for Reason {}
 
 #[cfg(test)]
 mod tests {
@@ -205,11 +249,14 @@ mod tests {
 
     #[test]
     fn nowhere_is_all_zeros(rt: HostRuntime) {
-        let refusal = Reason::Unlawful.nowhere();
-        assert_eq!(rt; refusal.reason, Reason::Unlawful);
-        assert_eq!(rt; refusal.place.volume, 0);
-        assert_eq!(rt; refusal.place.track, 0);
-        assert_eq!(rt; refusal.place.item, 0);
+        let [volume, track, item] = [0; 3];
+        let place = Place {
+            volume,
+            track,
+            item,
+        };
+        let reason = Reason::Unlawful;
+        assert_eq!(rt; reason.nowhere(), Refusal { reason, place });
     }
 
     #[test]
@@ -232,6 +279,19 @@ mod tests {
         assert_eq!(rt; refused.as_str(), "a setting is out of its range");
         let memory = SetupError::from(AllocError).to_string(rt.alloc())?;
         assert_eq!(rt; memory.as_str(), "no memory");
+        Ok(())
+    }
+
+    #[test]
+    fn reasons_have_words(rt: HostRuntime) -> Result<(), Fail> {
+        for (reason, _, _) in REASONS {
+            let told = reason.to_string(rt.alloc())?;
+            assert_eq!(rt; told.as_str(), reason.words());
+        }
+        assert_eq!(rt;
+            Reason::EmptyFile.words(),
+            "a Basic file must have a block before it is ended"
+        );
         Ok(())
     }
 }

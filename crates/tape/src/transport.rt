@@ -40,6 +40,7 @@ impl fmt::Display for Fault {
 
 impl Error for Fault {}
 
+/// What code above a drive asks of it.
 pub trait Transport {
     /// The state that this transport stands for.
     ghost tape: { Self → Tape };

@@ -38,7 +38,7 @@ const SIZES: [(usize, usize); 8] = [
     (2, 50),
 ];
 
-fn run(rt: &HostRuntime) -> io::Result<()> {
+fn run(rt: &impl Print) -> io::Result<()> {
     for reason in REASONS {
         println!(rt; "refused={:02} layer={}", reason.number(), reason.layer())?;
     }

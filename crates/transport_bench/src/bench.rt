@@ -1,27 +1,32 @@
 //! The commands that any transport can perform.
-use crate::words::{number, put_hex, show_bytes, show_kind, show_place};
-use case_words::answer::{found, moved, written, yes};
+use crate::words::{At, Hex, Next, number, put_hex};
+use case_words::answer::{found, moved, written};
+use case_words::status::StatusWords;
 use std::io;
 use tape::item::ItemRef;
 use tape::status::Status;
 use tape::transport::Transport;
 
+// The longest buffer of a read.
+const MOST_READ: usize = 300;
+
 /// A transport under trial, and where its answers go.
 #[derive(Drop)]
-pub(crate) struct Bench<'a, T> {
-    pub(crate) rt: &'a HostRuntime,
+pub(crate) struct Bench<'a, R, T> {
+    pub(crate) rt: &'a R,
     pub(crate) tape: T,
 }
 
-impl<T: Transport> Bench<'_, T> {
+impl<R: Print + AllocGlobal, T: Transport> Bench<'_, R, T> {
     fn marks(&mut self, count: &str) -> io::Result<()> {
+        let mut taken = 0usize;
         let mut last = Ok(false);
-        let taken = (0..number(count))
-            .filter(|_| {
-                last = self.tape.write(ItemRef::Mark);
-                last.is_ok()
-            })
-            .count();
+        for _ in 0..number(count) {
+            last = self.tape.write(ItemRef::Mark);
+            if last.is_ok() {
+                taken = taken.saturating_add(1);
+            }
+        }
         println!(self.rt; "{taken} {}", written(last))
     }
 
@@ -30,7 +35,7 @@ impl<T: Transport> Bench<'_, T> {
         let (hex, times) = argument.split_once('*').unwrap_or((argument, "1"));
         let mut bytes = Vec::new(self.rt.alloc());
         for _ in 0..number(times) {
-            put_hex(&mut bytes, hex);
+            put_hex(&mut bytes, hex)?;
         }
         let answer = self.tape.write(ItemRef::Block(bytes.as_slice()));
         self.rt.println(written(answer))
@@ -38,24 +43,19 @@ impl<T: Transport> Bench<'_, T> {
 
     // The buffer is filled beforehand, so that what a read leaves alone is seen to stay.
     fn read(&mut self, size: &str) -> io::Result<()> {
-        let mut bytes = [0xEEu8; 300];
-        let buffer = &mut bytes[..number(size).min(300)];
+        let mut bytes = [0xEEu8; MOST_READ];
+        let buffer = &mut bytes[..number(size).min(MOST_READ)];
         let answer = self.tape.read(buffer).map(Some);
-        show_bytes(self.rt, buffer)?;
-        show_kind(self.rt, answer)
+        println!(self.rt; "{}{}", Hex(buffer), Next(answer))
     }
 
     fn ask(&self) -> io::Result<()> {
         let status = Status::of(&self.tape);
-        show_place(self.rt, status.place)?;
-        let tracks = status.tracks;
-        let marked = yes(status.marked);
-        let failed = yes(status.failed);
-        let items = yes(status.recorded);
-        println!(self.rt; " tracks={tracks} marked={marked} failed={failed} items={items}")
+        println!(self.rt; "{} {}", At(status.place), StatusWords(status))
     }
 
     /// Performs a command.
+    // A match: a table of closures over the bench would hold function pointers, and be no shorter.
     pub(crate) fn perform(&mut self, command: &str, argument: &str) -> io::Result<()> {
         match command {
             "mark" => self.rt.println(written(self.tape.write(ItemRef::Mark))),
@@ -65,7 +65,7 @@ impl<T: Transport> Bench<'_, T> {
             "mount" => self.rt.println(moved(self.tape.mount())),
             "rewind" => self.rt.println(moved(self.tape.rewind())),
             "following" => self.rt.println(found(self.tape.following())),
-            "look" => show_kind(self.rt, self.tape.look()),
+            "look" => self.rt.println(Next(self.tape.look())),
             "read" => self.read(argument),
             "ask" => self.ask(),
             _ => self.rt.println("no such command"),

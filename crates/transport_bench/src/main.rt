@@ -35,7 +35,7 @@
 //!
 //! The bench begins with a transport as of a bare `new`, and a `new` that is refused keeps the old
 //! one. A number that cannot be read is 0, and digits that cannot be read give no byte. Anything else
-//! is answered `no such command`. That there is memory for the script's own bytes is taken for granted.
+//! is answered `no such command`.
 #![tactic(auto)]
 
 mod bench;
@@ -45,15 +45,17 @@ mod words;
 use crate::bench::Bench;
 use line::line_transport::LineTransport;
 use std::io;
-use std::io::Read;
 
 // Performs a script. The lines of a recorded text are gathered, and taken at the one with a dot.
-fn play(bench: &mut Bench<'_, LineTransport>, script: &str) -> io::Result<()> {
+fn play<R: Print + AllocGlobal>(
+    bench: &mut Bench<'_, R, LineTransport>,
+    script: &str,
+) -> io::Result<()> {
     let mut recorded = None;
     for given in script.split_terminator('\n') {
         match recorded.take() {
             Some(text) if given.starts_with('.') => bench.take(text, given)?,
-            Some(text) => recorded = Some(own::with_line(text, given)),
+            Some(text) => recorded = Some(own::with_line(text, given)?),
             None => {
                 if given == "take" {
                     recorded = Some(Vec::new(bench.rt.alloc()));
@@ -65,9 +67,8 @@ fn play(bench: &mut Bench<'_, LineTransport>, script: &str) -> io::Result<()> {
     Ok(())
 }
 
-fn run(rt: &HostRuntime) -> io::Result<()> {
-    let mut script = String::new(rt.alloc());
-    rt.stdin().read_to_string(&mut script)?;
+fn run(rt: &(impl Input + Print + AllocGlobal)) -> io::Result<()> {
+    let script = io::read_to_string(rt.alloc(), rt.reader())?;
     match LineTransport::new(rt.alloc(), own::settings("")) {
         Ok(tape) => play(&mut Bench { rt, tape }, script.as_str()),
         Err(error) => rt.println(error),

@@ -1,51 +1,47 @@
 //! What a line transport has beside the interface: its making, its text, and its tracks.
 use crate::bench::Bench;
-use crate::words::{number, put_hex, show_refusal};
+use crate::words::{Refused, number, put_hex};
 use case_words::answer::{found, yes};
 use case_words::blank::is_blank;
+use case_words::settings::USUAL;
 use line::line_transport::LineTransport;
 use line::settings::Settings;
+use std::alloc::AllocError;
 use std::io;
-use std::io::Write;
 use tape::refusal::SetupError;
 
 // The number behind a name, up to the next space.
 fn setting(argument: &str, name: &str, usual: usize) -> usize {
-    let Some((_, rest)) = argument.split_once(name) else {
-        return usual;
-    };
-    let (value, _) = rest.split_once(' ').unwrap_or((rest, ""));
-    number(value)
+    argument.split_once(name).map_or(usual, |(_, rest)| {
+        number(rest.split(' ').next().unwrap_or(rest))
+    })
 }
 
 /// The settings that a `new` names, and the usual ones for the others.
 pub(crate) fn settings(argument: &str) -> Settings {
     Settings {
-        tracks: setting(argument, "tracks=", 2),
-        volumes: setting(argument, "volumes=", 2),
-        marker: setting(argument, "marker=", 60000),
-        room: setting(argument, "room=", 4096),
+        tracks: setting(argument, "tracks=", USUAL.tracks),
+        volumes: setting(argument, "volumes=", USUAL.volumes),
+        marker: setting(argument, "marker=", USUAL.marker),
+        room: setting(argument, "room=", USUAL.room),
     }
 }
 
 /// A recorded text with a line more.
-pub(crate) fn with_line(mut recorded: Vec<u8>, line: &str) -> Vec<u8> {
-    let _ = recorded.extend_from_slice(line.as_bytes());
-    let _ = recorded.push(b'\n');
-    recorded
+pub(crate) fn with_line(mut recorded: Vec<u8>, line: &str) -> Result<Vec<u8>, AllocError> {
+    recorded.extend_from_slice(line.as_bytes())?;
+    recorded.push(b'\n')?;
+    Ok(recorded)
 }
 
-impl Bench<'_, LineTransport> {
+impl<R: Print + AllocGlobal> Bench<'_, R, LineTransport> {
     fn make(&mut self, argument: &str) -> io::Result<()> {
         match LineTransport::new(self.rt.alloc(), settings(argument)) {
             Ok(made) => {
                 self.tape = made;
                 self.rt.println("made")
             }
-            Err(SetupError::Refused(refusal)) => {
-                show_refusal(self.rt, refusal)?;
-                println!(self.rt; "")
-            }
+            Err(SetupError::Refused(refusal)) => self.rt.println(Refused(refusal)),
             Err(error) => self.rt.println(error),
         }
     }
@@ -54,8 +50,8 @@ impl Bench<'_, LineTransport> {
         match self.tape.take(text) {
             Ok(()) => println!(self.rt; "taken same={}", yes(self.tape.text() == text)),
             Err(refusal) => {
-                show_refusal(self.rt, refusal)?;
-                println!(self.rt; " blank={}", yes(is_blank(&self.tape)))
+                let blank = yes(is_blank(&self.tape));
+                println!(self.rt; "{} blank={blank}", Refused(refusal))
             }
         }
     }
@@ -64,20 +60,19 @@ impl Bench<'_, LineTransport> {
     pub(crate) fn take(&mut self, mut recorded: Vec<u8>, dot: &str) -> io::Result<()> {
         if dot != "." {
             let _ = recorded.pop();
-            put_hex(&mut recorded, dot.strip_prefix('.').unwrap_or(""));
+            put_hex(&mut recorded, dot.strip_prefix('.').unwrap_or(""))?;
         }
         self.offer(recorded.as_slice())
     }
 
     fn again(&mut self) -> io::Result<()> {
-        let mut text = Vec::new(self.rt.alloc());
-        let _ = text.extend_from_slice(self.tape.text());
+        let text = self.tape.text().to_vec(self.rt.alloc())?;
         self.offer(text.as_slice())
     }
 
     fn text(&self) -> io::Result<()> {
         self.rt.println(self.tape.text().len())?;
-        self.rt.stdout().write_all(self.tape.text())
+        self.rt.write_all(self.tape.text())
     }
 
     fn answer(&mut self, command: &str, argument: &str) -> io::Result<()> {

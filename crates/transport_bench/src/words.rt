@@ -1,38 +1,69 @@
 //! Answers in words, and numbers and bytes that are given in words.
-use std::io;
+use std::alloc::AllocError;
+use std::fmt;
 use tape::item::Kind;
 use tape::place::Place;
 use tape::refusal::Refusal;
 use tape::transport::Fault;
 
-pub(crate) fn show_kind(rt: &HostRuntime, answer: Result<Option<Kind>, Fault>) -> io::Result<()> {
-    match answer {
-        Ok(Some(Kind::Block(size))) => println!(rt; "block {size:03}"),
-        Ok(Some(Kind::Mark)) => rt.println("mark"),
-        Ok(None) => rt.println("end"),
-        Err(fault) => rt.println(fault),
+/// What comes next, or what a read passed.
+#[derive(Clone, Copy)]
+pub(crate) struct Next(pub(crate) Result<Option<Kind>, Fault>);
+
+impl fmt::Display for Next {
+    fn fmt<W: fmt::Write>(&self, f: &mut fmt::Formatter<W>) -> fmt::Result {
+        match self.0 {
+            Ok(Some(Kind::Block(size))) => write!(f, "block {size:03}"),
+            Ok(Some(Kind::Mark)) => f.write_str("mark"),
+            Ok(None) => f.write_str("end"),
+            Err(fault) => write!(f, "{fault}"),
+        }
     }
 }
 
-pub(crate) fn show_bytes(rt: &HostRuntime, bytes: &[u8]) -> io::Result<()> {
-    for b in bytes {
-        print!(rt; "{b:02X} ")?;
+/// Bytes in hex, a space behind each.
+#[derive(Clone, Copy)]
+pub(crate) struct Hex<'a>(pub(crate) &'a [u8]);
+
+impl fmt::Display for Hex<'_> {
+    fn fmt<W: fmt::Write>(&self, f: &mut fmt::Formatter<W>) -> fmt::Result {
+        for b in self.0 {
+            write!(f, "{b:02X} ")?;
+        }
+        Ok(())
     }
-    Ok(())
 }
 
-pub(crate) fn show_place(rt: &HostRuntime, place: Place) -> io::Result<()> {
-    print!(rt;
-        "vol={:02} track={} item={:05}",
-        place.volume, place.track, place.item
-    )
+/// A place as the lines of a recorded text have it.
+#[derive(Clone, Copy)]
+pub(crate) struct At(pub(crate) Place);
+
+impl fmt::Display for At {
+    fn fmt<W: fmt::Write>(&self, f: &mut fmt::Formatter<W>) -> fmt::Result {
+        let place = self.0;
+        write!(
+            f,
+            "vol={:02} track={} item={:05}",
+            place.volume, place.track, place.item
+        )
+    }
 }
 
 /// Why a call was refused, the place that the refusal speaks of, and by which layer.
-pub(crate) fn show_refusal(rt: &HostRuntime, refusal: Refusal) -> io::Result<()> {
-    print!(rt; "refused={} ", refusal.reason.number())?;
-    show_place(rt, refusal.place)?;
-    print!(rt; " layer={}", refusal.reason.layer())
+#[derive(Clone, Copy)]
+pub(crate) struct Refused(pub(crate) Refusal);
+
+impl fmt::Display for Refused {
+    fn fmt<W: fmt::Write>(&self, f: &mut fmt::Formatter<W>) -> fmt::Result {
+        let Refusal { reason, place } = self.0;
+        write!(
+            f,
+            "refused={} {} layer={}",
+            reason.number(),
+            At(place),
+            reason.layer()
+        )
+    }
 }
 
 pub(crate) fn number(text: &str) -> usize {
@@ -44,6 +75,6 @@ fn byte(pair: &[u8]) -> Option<u8> {
 }
 
 /// Adds bytes that are given in hex, as far as they can be read.
-pub(crate) fn put_hex(bytes: &mut Vec<u8>, hex: &str) {
-    let _ = bytes.extend(hex.as_bytes().chunks(2).filter_map(byte));
+pub(crate) fn put_hex(bytes: &mut Vec<u8>, hex: &str) -> Result<(), AllocError> {
+    bytes.extend(hex.as_bytes().chunks(2).filter_map(byte))
 }

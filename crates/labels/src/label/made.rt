@@ -1,5 +1,5 @@
 //! Making a label, and handing its bytes out.
-ghost use Rattle.std.specs.Prelude.{◌≡◌, ◌+◌, ◌≤◌, ◌++◌, length, take, true, IfOk};
+ghost use Rattle.std.specs.Prelude.{◌≡◌, ◌+◌, ◌≤◌, ◌++◌, take, true, IfOk};
 ghost use Rattle.labels.specs.Contents.{label_bytes};
 ghost use Rattle.labels.specs.Laws.{ReadsBack};
 ghost use Rattle.labels.specs.Layout.{lawful_label};
@@ -11,12 +11,11 @@ use figures::decimal::decimal;
 use tape::refusal::Reason;
 
 /// Puts the part at its place, behind what is there.
-fn put(bytes: &mut [u8; 32], from: usize, to: usize, part: &[u8])
-    requires within { to ≤ 32 }
-    requires fits { from + length part.now ≡ to }
-    ensures { take to bytes.new ≡ take from bytes.old ++ part.now }
+fn put<const N: usize>(bytes: &mut [u8; 32], from: usize, part: &[u8; N])
+    requires { from + N ≤ 32 }
+    ensures { take (from + N) bytes.new ≡ take from bytes.old ++ part.now }
 {
-    bytes[from..to].copy_from_slice(part);
+    bytes[from..from + N].copy_from_slice(part);
 }
 
 /// The bytes of the label, each part at its place.
@@ -30,15 +29,16 @@ fn laid_out(contents: Contents) -> [u8; 32]
         section,
         count,
     } = contents;
+    // the kind stands first; what is behind it is put there next
     let mut bytes = [u8::from(kind); 32];
-    put(&mut bytes, 1, 5, &volume);
-    put(&mut bytes, 5, 13, &fields.file);
-    put(&mut bytes, 13, 15, &decimal::<2>(usize::from(section)));
-    put(&mut bytes, 15, 20, &fields.created);
-    put(&mut bytes, 20, 23, &fields.retention);
-    put(&mut bytes, 23, 27, &decimal::<4>(usize::from(count)));
-    put(&mut bytes, 27, 28, &[fields.code]);
-    put(&mut bytes, 28, 32, &fields.user);
+    put(&mut bytes, 1, &volume);
+    put(&mut bytes, 5, &fields.file);
+    put(&mut bytes, 13, &decimal::<2>(usize::from(section)));
+    put(&mut bytes, 15, &fields.created);
+    put(&mut bytes, 20, &fields.retention);
+    put(&mut bytes, 23, &decimal::<4>(usize::from(count)));
+    put(&mut bytes, 27, &[fields.code]);
+    put(&mut bytes, 28, &fields.user);
     bytes
 }
 

@@ -7,6 +7,7 @@ use crate::parts::Parts;
 
 impl<'a> Parts<'a> {
     /// The parts of the bytes behind a label's kind, where there are 31.
+    // An Option: in a TryFrom each of the eight cuts would carry the error.
     pub(crate) fn of(rest: &'a [u8]) -> Option<Parts<'a>>
         ensures { option_map held result ≡ found_parts rest.now }
     {
@@ -18,10 +19,7 @@ impl<'a> Parts<'a> {
         let (count, rest) = rest.split_first_chunk()?;
         let (code, rest) = rest.split_first_chunk()?;
         let (user, rest) = rest.split_first_chunk()?;
-        if !rest.is_empty() {
-            return None;
-        }
-        Some(Parts {
+        rest.is_empty().then_some(Parts {
             volume,
             file,
             section,

@@ -4,11 +4,11 @@ ghost use Rattle.labels.specs.Characters.{number};
 ghost use Rattle.labels.specs.Layout.{lawful_parts};
 ghost use Rattle.labels.specs.Reading.{held, fields_of};
 
-use crate::characters::{CharSet, is_date, is_part, number};
+use crate::characters::{CharSet, is_date, number};
 use crate::fields::Fields;
 use crate::parts::Parts;
 
-impl<'a> Parts<'a> {
+impl Parts<'_> {
     /// The volume, copied out of the block.
     pub fn volume(&self) -> [u8; 4]
         ensures { result ≡ (held self.now).volume }
@@ -33,6 +33,7 @@ impl<'a> Parts<'a> {
     pub fn section(&self) -> u8
         ensures { result ≡ number (held self.now).section }
     {
+        // by a name: the check lends no slice straight from a field that is a reference
         let digits = self.section;
         number(digits) as u8
     }
@@ -46,6 +47,7 @@ impl<'a> Parts<'a> {
     }
 
     /// Whether each part is lawful.
+    // In the layout's order, as in `lawful_parts`; by `Fields::are_lawful` the check finds no proof.
     pub(crate) fn are_lawful(&self) -> bool
         ensures { result ≡ lawful_parts (held self.now) }
     {
@@ -59,13 +61,13 @@ impl<'a> Parts<'a> {
             code,
             user,
         } = *self;
-        is_part(volume, 4, CharSet::Text)
-            && is_part(file, 8, CharSet::Text)
-            && is_part(section, 2, CharSet::Digits)
+        CharSet::Text.has_all(volume)
+            && CharSet::Text.has_all(file)
+            && CharSet::Digits.has_all(section)
             && is_date(created)
-            && is_part(retention, 3, CharSet::Digits)
-            && is_part(count, 4, CharSet::Digits)
-            && is_part(code, 1, CharSet::Digits)
-            && is_part(user, 4, CharSet::Text)
+            && CharSet::Digits.has_all(retention)
+            && CharSet::Digits.has_all(count)
+            && CharSet::Digits.has_all(code)
+            && CharSet::Text.has_all(user)
     }
 }

@@ -1,6 +1,8 @@
 //! The line transport as a transport. Beyond the interface it promises which write meets a track's
 //! marker, that a write fails exactly where its line does not fit the text, and that nothing else
 //! ever fails.
+// The clauses `exact` and `settings` stand on each function: they are of two states, which no invariant
+// is. A Model would forget the invariant, and `sound` speaks of every value.
 ghost use Rattle.std.specs.Prelude.{◌≡◌, true, false, ◌⊎◌, MatchResult};
 ghost use Rattle.tape.specs.Items.{item_of};
 ghost use Rattle.tape.specs.Tape.{Does, Exactly, write, next_track, mount, following, rewind, look, read, head_place, marker_met, any_items};
@@ -8,13 +10,14 @@ ghost use Rattle.line.specs.Meaning.{line_tape, line_choice, settings_of, sure};
 ghost use Rattle.line.specs.Sound.{sound_of};
 
 use super::LineTransport;
-use super::reading::block_line;
+use line_text::lines::size_of_line;
 use tape::item::{ItemRef, Kind};
 use tape::place::Place;
 use tape::transport::{Fault, Transport};
 
 impl LineTransport {
-    // A function goes on only where it applies, here and in a transport that has not failed.
+    // A function goes on only where it applies, here and in a transport that has not failed: as in
+    // `attempt`, `here` is true of those that only a failure turns down.
     fn applies(&self, here: bool) -> Result<(), Fault>
         ensures { MatchResult result (λ _. (self.now.failed ≡ false) × (here ≡ true)) (λ fault. (fault ≡ Fault.TurnedDown) × ((self.now.failed ≡ true) ⊎ (here ≡ false))) }
     {
@@ -63,19 +66,13 @@ impl Transport for LineTransport {
         Ok(())
     }
 
-    #[tactic(auto, using(crate::proofs::Facts::all_there))]
     fn following(&mut self) -> Result<bool, Fault>
         ensures does { Does (λ c. following c (line_tape self.old)) (result, line_tape self.new) }
         ensures exact { Exactly (following sure (line_tape self.old)) (result, line_tape self.new) }
         ensures settings { settings_of self.new ≡ settings_of self.old }
     {
         self.applies(true)?;
-        let next = self.next_volume();
-        if next >= self.spans.len() {
-            return Ok(false);
-        }
-        self.head_to_track(next);
-        Ok(true)
+        Ok(self.seek_track(self.next_volume()))
     }
 
     fn rewind(&mut self) -> Result<(), Fault>
@@ -104,23 +101,14 @@ impl Transport for LineTransport {
     {
         self.applies(true)?;
         let kind = self.next_kind().ok_or(Fault::TurnedDown)?;
-        match kind {
-            Kind::Mark => self.pass(36),
-            Kind::Block(size) => {
-                self.applies(self.copy_bytes(size, buffer))?;
-                self.pass(block_line(size));
-            }
-        }
+        self.copy_bytes(kind, buffer).ok_or(Fault::TurnedDown)?;
+        self.pass(size_of_line(kind));
         Ok(kind)
     }
 
     // The questions never fail, and change nothing.
     fn place(&self) -> Place {
-        Place {
-            volume: self.head.at / self.settings.tracks + 1,
-            track: self.head.at % self.settings.tracks + 1,
-            item: self.head.item + 1,
-        }
+        self.place_of(self.head.at, self.head.item + 1)
     }
 
     fn tracks(&self) -> usize {

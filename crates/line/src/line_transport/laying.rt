@@ -14,7 +14,6 @@ use line_text::lines::{track_of_line, volume_of_line};
 use line_text::span::Span;
 use tape::bounds::MOST_ITEMS;
 use tape::item::ItemRef;
-use tape::place::Place;
 
 impl LineTransport {
     // The index of the track that a line names.
@@ -25,16 +24,12 @@ impl LineTransport {
             + track_of_line(line).saturating_sub(1)
     }
 
-    // The items of a track, none where it is not there.
-    #[tactic(auto, using(crate::proofs::Facts::count_at))]
+    // The number of a track's items; a track that is not there counts as blank.
+    #[tactic(auto, using(crate::proofs::Facts::any_count))]
     pub(super) fn count_of(&self, k: usize) -> usize
         ensures { result ≡ length (slice_index_or (line_tape self.now).image k blank_track).items }
     {
-        if k < self.spans.len() {
-            self.span(k).count
-        } else {
-            0
-        }
+        self.spans.get(k).copied().unwrap_or(Span::blank()).count
     }
 
     pub(super) fn goes_on(&self, k: usize) -> bool
@@ -55,7 +50,6 @@ impl LineTransport {
         let there = (k / self.settings.tracks + 1) * self.settings.tracks;
         let more = there.saturating_sub(self.spans.len());
         put_blanks(&mut self.spans, more);
-        self.left = self.settings.volumes - self.spans.len() / self.settings.tracks;
     }
 
     // The item is put behind those of a track, with the track's span then, and the head behind it.
@@ -66,11 +60,7 @@ impl LineTransport {
         ensures text { self.new.text.items ≡ self.old.text.items ++ line_on (line_tape self.old) k (item_of item.entry) }
         ensures last { self.new.last ≡ k }
     {
-        let place = Place {
-            volume: k / self.settings.tracks + 1,
-            track: k % self.settings.tracks + 1,
-            item: span.count,
-        };
+        let place = self.place_of(k, span.count);
         put_line(&mut self.text, place, item);
         self.spans[k] = span;
         self.last = k;

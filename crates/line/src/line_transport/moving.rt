@@ -1,5 +1,5 @@
 //! The head goes to another track, and volumes are mounted.
-ghost use Rattle.std.specs.Prelude.{◌≡◌, ◌+◌, ◌<◌, not, ◌&&◌, length, nat_lt};
+ghost use Rattle.std.specs.Prelude.{◌≡◌, ◌+◌, ◌/◌, ◌%◌, ◌<◌, not, ◌&&◌, length, nat_lt};
 ghost use Rattle.tape.specs.Tape.{at_end, on_last_track, no_items, here, next_volume, any_items, head_to, mounted};
 ghost use Rattle.line.specs.Meaning.{line_tape};
 ghost use Rattle.line.specs.Steps.{Becomes, span_at};
@@ -7,6 +7,7 @@ ghost use Rattle.line.specs.Steps.{Becomes, span_at};
 use super::{Head, LineTransport};
 use crate::text::put_blanks;
 use line_text::span::Span;
+use tape::place::Place;
 use tape::transport::Transport;
 
 impl LineTransport {
@@ -16,6 +17,18 @@ impl LineTransport {
         ensures { result ≡ span_at self.now k }
     {
         self.spans[k]
+    }
+
+    // The place of an item of a track that is mounted.
+    pub(super) fn place_of(&self, k: usize, item: usize) -> Place
+        requires { k < length self.now.spans.items }
+        ensures { result ≡ record { volume = k / self.now.settings.tracks + 1; track = k % self.now.settings.tracks + 1; item = item } }
+    {
+        Place {
+            volume: k / self.settings.tracks + 1,
+            track: k % self.settings.tracks + 1,
+            item,
+        }
     }
 
     // The head goes to the first item of a track that is mounted.
@@ -53,19 +66,25 @@ impl LineTransport {
         (self.head.at / self.settings.tracks + 1) * self.settings.tracks
     }
 
-    pub(super) fn can_mount(&self) -> bool
-        ensures { result ≡ (any_items (line_tape self.now) && at_end (line_tape self.now) && on_last_track (line_tape self.now) && nat_lt 0 self.now.left) }
+    // The volumes still to be mounted.
+    fn left(&self) -> usize
+        ensures { result ≡ (line_tape self.now).left }
     {
-        self.has_items() && self.is_at_end() && self.is_on_last_track() && 0 < self.left
+        self.settings.volumes - self.spans.len() / self.settings.tracks
+    }
+
+    pub(super) fn can_mount(&self) -> bool
+        ensures { result ≡ (any_items (line_tape self.now) && at_end (line_tape self.now) && on_last_track (line_tape self.now) && nat_lt 0 (line_tape self.now).left) }
+    {
+        self.has_items() && self.is_at_end() && self.is_on_last_track() && 0 < self.left()
     }
 
     // A blank volume more, with the head on its first track.
     pub(super) fn add_volume(&mut self)
-        requires { 0 < self.old.left }
+        requires { 0 < (line_tape self.old).left }
         ensures { Becomes self.old self.new (mounted (line_tape self.old)) }
     {
         self.head = Head::start_of(self.spans.len(), 0);
         put_blanks(&mut self.spans, self.settings.tracks);
-        self.left -= 1;
     }
 }

@@ -1,7 +1,7 @@
 //! The line at the head is read, and passed.
-ghost use Rattle.std.specs.Prelude.{◌≡◌, ℕ, ◌==◌, suc, ◌+◌, ◌*◌, ◌≤◌, List, ◌++◌, if◌then◌else◌};
+ghost use Rattle.std.specs.Prelude.{◌≡◌, ℕ, ◌==◌, suc, ◌+◌, ◌*◌, ◌≤◌, List, ◌++◌, is_some, MatchOption};
 ghost use Rattle.std.specs.Option.{option_map};
-ghost use Rattle.tape.specs.Items.{kind_of, longest_block};
+ghost use Rattle.tape.specs.Items.{kind_of};
 ghost use Rattle.tape.specs.Tape.{head_place, next_item, head_to, fits_in, filled};
 ghost use Rattle.line_text.specs.Lines.{line, line_size};
 ghost use Rattle.line.specs.Meaning.{line_tape};
@@ -11,14 +11,6 @@ ghost use Rattle.line.specs.Steps.{Becomes, span_at};
 use super::LineTransport;
 use line_text::lines::{copy_block, kind_of_line};
 use tape::item::Kind;
-
-// The bytes of a block's line.
-pub(super) fn block_line(size: usize) -> usize
-    requires { size ≤ longest_block }
-    ensures { result ≡ 51 + 2 * size }
-{
-    51 + 2 * size
-}
 
 impl LineTransport {
     // Whether the head has passed every item of its track.
@@ -47,14 +39,18 @@ impl LineTransport {
         &self.text[self.head.pos..]
     }
 
-    // The bytes of the block there go to the front of a buffer that is long enough. Tells whether it was.
-    pub(super) fn copy_bytes(&self, size: usize, buffer: &mut [u8]) -> bool
+    // The bytes of the item there, which a block alone has, go to the front of a buffer that is long
+    // enough for them.
+    pub(super) fn copy_bytes(&self, kind: Kind, buffer: &mut [u8]) -> Option<()>
         requires there { HasNext self.now }
-        requires kind { kind_of (next self.now) ≡ Kind.Block size }
-        ensures told { result ≡ fits_in (next self.now) buffer.old }
-        ensures bytes { buffer.new ≡ (if result then filled buffer.old (next self.now) else buffer.old) }
+        requires kind { kind_of (next self.now) ≡ kind }
+        ensures told { is_some result ≡ fits_in (next self.now) buffer.old }
+        ensures bytes { MatchOption result (buffer.new ≡ buffer.old) (λ _. buffer.new ≡ filled buffer.old (next self.now)) }
     {
-        copy_block(self.next_line(), size, buffer)
+        match kind {
+            Kind::Mark => Some(()),
+            Kind::Block(size) => copy_block(self.next_line(), size, buffer),
+        }
     }
 
     // The head passes the item there, whose line has so many bytes.

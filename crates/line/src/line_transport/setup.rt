@@ -27,7 +27,6 @@ impl LineTransport {
             text,
             spans,
             settings,
-            left: settings.volumes - 1,
             head: Head::start_of(0, 0),
             last: 0,
             failed: false,
@@ -43,7 +42,6 @@ impl LineTransport {
         self.text.clear();
         self.spans.clear();
         put_blanks(&mut self.spans, self.settings.tracks);
-        self.left = self.settings.volumes - 1;
         self.head = Head::start_of(0, 0);
         self.last = 0;
         self.failed = false;

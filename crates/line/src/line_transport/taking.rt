@@ -11,6 +11,7 @@ ghost use Rattle.line.specs.Steps.{Awaits, Took};
 
 use super::LineTransport;
 use line_text::lines::{copy_block, fits, kind_of_line};
+use tape::bounds::LONGEST_BLOCK;
 use tape::item::{ItemRef, Kind};
 use tape::refusal::{Reason, Refusal};
 
@@ -38,10 +39,11 @@ impl LineTransport {
         requires awaits { Awaits self.old line.now }
         ensures { let told = block (unhexed size (drop 50 line.now)) in Took self.old self.new (proper told && is_own_line (line_tape self.old) k told line.now) k told result }
     {
-        let mut bytes = [0u8; 256];
-        if size == 0 || !copy_block(line, size, &mut bytes) {
+        if size == 0 {
             return None;
         }
+        let mut bytes = [0u8; LONGEST_BLOCK];
+        copy_block(line, size, &mut bytes)?;
         self.take_item(line, k, ItemRef::Block(&bytes[..size]))
     }
 

@@ -4,7 +4,8 @@ use Rattle.tape.specs.Tape.{Tape, here, head_to, next_item}
 use Rattle.line.specs.Meaning.{line_tape}
 use Rattle.inspection.specs.declared.totals.Totals.{Totals}
 use Rattle.inspection.specs.Amounts.{totals_from}
-use Rattle.inspection.specs.Account.{PutNext, NextPut, item_lines}
+use Rattle.inspection.specs.Account.{item_lines}
+use Rattle.inspection.specs.Walked.{NextPut}
 use Rattle.inspection.proofs.Gave.{put_none, put_some, left_more, left_none, lines_more, lines_none}
 use Rattle.inspection.proofs.walk.Walk.put_items.Goals as goal
 
@@ -17,7 +18,7 @@ loop-more-preserved c =
     let new = vec_items c.put_next.new.self.out in
     let u = line_tape c.put_next.new.self.tape in
     let inv = c.loop-more.invariant in
-    let put : NextPut (head_to t t.at n) out c.loop-more.totals (next_item (head_to t t.at n)) (Some c.in-Some.more) u new = subst₂ (λ (v : Tape) (o : Option Totals). PutNext v out c.loop-more.totals o u new) inv.tape c.in-Some.is c.in_ok-more.ensures in
+    let put : NextPut (head_to t t.at n) out c.loop-more.totals (next_item (head_to t t.at n)) (Some c.in-Some.more) u new = subst₂ (λ (v : Tape) (o : Option Totals). NextPut v out c.loop-more.totals (next_item v) o u new) inv.tape c.in-Some.is c.in_ok-more.ensures in
     let p = put_some (head_to t t.at n) _ _ _ _ _ _ put in
     let left = left_more is n p.0 p.1 in
     let next : suc n ≡ (line_tape c.put_next.new.self.tape).item = sym (ap (λ (v : Tape). v.item) p.3) in record {
@@ -36,7 +37,7 @@ returns c =
     let new = vec_items c.put_next.new.self.out in
     let u = line_tape c.put_next.new.self.tape in
     let inv = c.loop-more.invariant in
-    let put : NextPut (head_to t t.at n) out c.loop-more.totals (next_item (head_to t t.at n)) None u new = subst₂ (λ (v : Tape) (o : Option Totals). PutNext v out c.loop-more.totals o u new) inv.tape c.in_default.is c.in_ok-more.ensures in
+    let put : NextPut (head_to t t.at n) out c.loop-more.totals (next_item (head_to t t.at n)) None u new = subst₂ (λ (v : Tape) (o : Option Totals). NextPut v out c.loop-more.totals (next_item v) o u new) inv.tape c.in_default.is c.in_ok-more.ensures in
     let p = put_none (head_to t t.at n) _ _ _ _ _ put in
     let past = left_none is n p.0 in
     let end : n ≡ length is = omega (arith, past, inv.inside) in

@@ -6,7 +6,7 @@ use Rattle.line.specs.Sound.{sound_of}
 use Rattle.inspection.specs.declared.totals.Totals.{Totals}
 use Rattle.inspection.specs.Amounts.{counted}
 use Rattle.inspection.specs.Items.{item_line}
-use Rattle.inspection.specs.Account.{NextPut}
+use Rattle.inspection.specs.Walked.{NextPut}
 use Rattle.inspection.proofs.Gave.{next_fits, gave_none, gave_some, is_mark, is_block}
 use Rattle.inspection.proofs.walk.Walk.put_next.Goals as goal
 use Rattle.inspection.proofs.walk.Walk.put_next.Goals.{in-Mark, in-Block}

@@ -1,7 +1,6 @@
-use Rattle.std.proofs.Common.{◌-◌, false, ◌++◌, length, replicate, vec_items, sym, refl, ap, ◌∙◌, subst, arith}
+use Rattle.std.proofs.Common.{false, ◌++◌, length, replicate, vec_items, sym, refl, ap, ◌∙◌, subst, arith}
 use Rattle.line_text.specs.Layout.{HeadInside, HeadPlaced, blank_span}
 use Rattle.line.specs.declared.line_transport.Head.{Head}
-use Rattle.line.proofs.Longer.{all_tracks, some_volume}
 use Rattle.line.proofs.Fresh.{Blank, all_blank}
 use Rattle.line.proofs.line_transport.LineTransport.erase.Goals as goal
 use Rattle.line.proofs.line_transport.LineTransport.erase.Goals.{After-put_blanks}
@@ -9,7 +8,7 @@ use Rattle.line.proofs.line_transport.LineTransport.erase.Goals.{After-put_blank
 blank : (c : After-put_blanks) → let x = c.args.self.now in Blank x.settings.tracks x.settings.volumes x.settings.marker (vec_items c.clear.new.self) (vec_items c.put_blanks.new.spans)
 blank c =
     let x = c.args.self.now in
-    all_blank _ _ _ _ _ c.clear.ensures.items (c.put_blanks.ensures.items ∙ ap (λ l. l ++ replicate x.settings.tracks blank_span) c.clear-2.ensures.items) x.bounds.0 (some_volume x) x.foil.0
+    all_blank _ _ _ _ _ c.clear.ensures.items (c.put_blanks.ensures.items ∙ ap (λ l. l ++ replicate x.settings.tracks blank_span) c.clear-2.ensures.items) x.lawful.some_track x.lawful.some_volume x.lawful.late
 
 pub invariant_of-self : goal.invariant_of-self
 invariant_of-self c =
@@ -28,9 +27,12 @@ invariant_of-self c =
       inside = subst (λ (h : Head). HeadInside spans h.at h.item) first b.head;
       reached = subst (λ (h : Head). HeadPlaced x.settings.tracks (vec_items c.clear.new.self) spans h.at h.item h.pos) first b.reached;
       unmarked = b.unmarked;
-      bounds = (x.bounds.0, x.bounds.1, b.whole, b.volumes, x.bounds.4);
-      memory = (omega (arith, x.memory.0, c.clear.ensures.capacity), omega (arith, ap length c.clear.ensures.items), omega (arith, b.room, all_tracks x, x.memory.2, c.clear-2.ensures.capacity, c.put_blanks.ensures.capacity));
-      foil = x.foil;
+      lawful = x.lawful;
+      whole_volumes = b.whole;
+      mounted = b.volumes;
+      text_memory = omega (arith, x.text_memory, c.clear.ensures.capacity);
+      in_room = omega (arith, ap length c.clear.ensures.items);
+      span_memory = omega (arith, x.span_memory, c.clear-2.ensures.capacity, c.put_blanks.ensures.capacity);
     }
 
 pub returns-clause-becomes : goal.returns-clause-becomes
@@ -38,4 +40,4 @@ returns-clause-becomes c =
     let x = c.args.self.now in
     let b = blank (goal.at.returns-clause-becomes c).After-put_blanks in
     let head = c.start_of-self.ensures in
-    record { tape = λ i. record { tracks = x.settings.tracks; image = b.image i; at = (head i).at; item = (head i).item; left = x.settings.volumes - 1; failed = false }; settings = refl }
+    record { tape = λ i. record { tracks = x.settings.tracks; image = b.image i; at = (head i).at; item = (head i).item; left = b.left i; failed = false }; settings = refl }

@@ -1,22 +1,12 @@
-use Rattle.std.proofs.Common.{◌≡◌, ◌-◌, ◌≤◌, true, false, ◌++◌, length, replicate, vec_items, sym, refl, ap, ◌∙◌, subst, arith}
+use Rattle.std.proofs.Common.{◌≡◌, true, false, ◌++◌, length, replicate, vec_items, sym, refl, ap, ◌∙◌, subst, arith}
 use Rattle.std.proofs.lemmas.Bool.Decides.{nat_tests}
-use Rattle.tape.specs.Tape.{most_tracks, most_volumes, first_marker, last_marker}
 use Rattle.line_text.specs.Layout.{HeadInside, HeadPlaced, blank_span}
 use Rattle.line.specs.declared.line_transport.Head.{Head}
 use Rattle.line.specs.declared.settings.Settings.{Settings}
-use Rattle.line.specs.Settings.{lawful_settings}
+use Rattle.line.specs.Settings.{lawful_settings, Lawful}
 use Rattle.line.proofs.Fresh.{Blank, all_blank}
 use Rattle.line.proofs.line_transport.LineTransport.new.Goals as goal
 use Rattle.line.proofs.line_transport.LineTransport.new.Goals.{After-put_blanks}
-
--- what lawful settings are
-record Lawful (s : Settings) : Type 0 where
-  some_track : 1 ≤ s.tracks
-  few_tracks : s.tracks ≤ most_tracks
-  some_volume : 1 ≤ s.volumes
-  few_volumes : s.volumes ≤ most_volumes
-  late : first_marker ≤ s.marker
-  early : s.marker ≤ last_marker
 
 lawful : (s : Settings) → lawful_settings s ≡ true → Lawful s
 lawful s h = record {
@@ -56,9 +46,12 @@ invariant_of-result c =
       inside = subst (λ (h : Head). HeadInside spans h.at h.item) first b.head;
       reached = subst (λ (h : Head). HeadPlaced x.tracks (vec_items c.in_ok-text.text) spans h.at h.item h.pos) first b.reached;
       unmarked = b.unmarked;
-      bounds = (l.some_track, l.few_tracks, b.whole, b.volumes, l.few_volumes);
-      memory = (c.in_ok-text.ensures.capacity, omega (arith, ap length c.in_ok-text.ensures.items), omega (arith, b.room, c.in_ok-spans.ensures.capacity, c.put_blanks.ensures.capacity));
-      foil = (l.late, l.early);
+      lawful = l;
+      whole_volumes = b.whole;
+      mounted = b.volumes;
+      text_memory = c.in_ok-text.ensures.capacity;
+      in_room = omega (arith, ap length c.in_ok-text.ensures.items);
+      span_memory = omega (arith, c.in_ok-spans.ensures.capacity, c.put_blanks.ensures.capacity);
     }
 
 pub returns : goal.returns
@@ -67,4 +60,4 @@ returns c =
     let d = (goal.at.returns c).After-put_blanks in
     let b = blank d in
     let head = c.start_of.ensures in
-    (fair d, (λ i. record { tracks = x.tracks; image = b.image i; at = (head i).at; item = (head i).item; left = x.volumes - 1; failed = false }), refl)
+    (fair d, (λ i. record { tracks = x.tracks; image = b.image i; at = (head i).at; item = (head i).item; left = b.left i; failed = false }), refl)

@@ -11,7 +11,7 @@ size : (c : Start) → c.args.bytes ≡ line_size (get_or (head_items c.args.sel
 size c = c.requires.size ∙ ap (λ l. line_size (get_or l c.args.self.now.head.item mark)) (items_of_here c.args.self.now)
 
 pub overflow_add-self-2 : goal.overflow_add-self-2
-overflow_add-self-2 c = let x = c.args.self.now in omega (arith, size (goal.at.overflow_add-self-2 c).Start, line_inside x (item_there x c.requires.there), x.memory)
+overflow_add-self-2 c = let x = c.args.self.now in omega (arith, size (goal.at.overflow_add-self-2 c).Start, line_inside x (item_there x c.requires.there), x.text_memory, x.in_room)
 
 pub invariant_of-self-clause-reached : goal.invariant_of-self-clause-reached
 invariant_of-self-clause-reached c some =

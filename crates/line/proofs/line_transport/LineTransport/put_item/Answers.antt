@@ -1,4 +1,5 @@
-use Rattle.std.proofs.Common.{◌≡◌, ◌+◌, ◌/◌, ◌%◌, List, ◌++◌, length, set, vec_items, sym, refl, ap, ◌∙◌, subst, arith, length-set}
+use Rattle.std.proofs.Common.{◌≡◌, ◌+◌, ◌-◌, ◌/◌, ◌%◌, List, ◌++◌, length, set, vec_items, sym, refl, ap, ◌∙◌, subst, arith, length-set}
+use Rattle.tape.specs.declared.place.Place.{Place}
 use Rattle.tape.specs.Items.{item_of}
 use Rattle.line_text.specs.declared.span.Span.{Span}
 use Rattle.line_text.specs.Lines.{line}
@@ -12,7 +13,7 @@ use Rattle.line.proofs.line_transport.LineTransport.put_item.Goals.{After-put_li
 text_is : (c : After-put_line) → vec_items c.put_line.new.text ≡ vec_items c.args.self.now.text ++ added c.args.self.now c.args.k (item_of c.args.item)
 text_is c =
     let x = c.args.self.now in
-    c.put_line.ensures.puts.items ∙ ap (λ n. vec_items x.text ++ line (c.args.k / x.settings.tracks + 1) (c.args.k % x.settings.tracks + 1) n (item_of c.args.item)) c.requires.fits.counts
+    c.put_line.ensures.puts.items ∙ ap (λ (p : Place). vec_items x.text ++ line p.volume p.track p.item (item_of c.args.item)) c.place_of-place.ensures ∙ ap (λ n. vec_items x.text ++ line (c.args.k / x.settings.tracks + 1) (c.args.k % x.settings.tracks + 1) n (item_of c.args.item)) c.requires.fits.counts
 
 pub invariant_of-self : goal.invariant_of-self
 invariant_of-self c =
@@ -41,9 +42,12 @@ invariant_of-self c =
       inside = head;
       reached = reached;
       unmarked = unmarked_now x k i s f sm;
-      bounds = (x.bounds.0, x.bounds.1, ap (λ m. m % x.settings.tracks) same ∙ x.bounds.2, ap (λ m. m / x.settings.tracks + x.left) same ∙ x.bounds.3, x.bounds.4);
-      memory = (omega (arith, x.memory.0, c.put_line.ensures.puts.capacity), omega (arith, ap length e, length_now x k i s f sm, c.requires.room), omega (arith, same, x.memory.2));
-      foil = x.foil;
+      lawful = x.lawful;
+      whole_volumes = ap (λ m. m % x.settings.tracks) same ∙ x.whole_volumes;
+      mounted = omega (arith, ap (λ m. m / x.settings.tracks) same, x.mounted);
+      text_memory = omega (arith, x.text_memory, c.put_line.ensures.puts.capacity);
+      in_room = omega (arith, ap length e, length_now x k i s f sm, c.requires.room);
+      span_memory = x.span_memory;
     }
 
 pub returns : goal.returns
@@ -56,7 +60,7 @@ returns c =
     let sm = c.put_line.ensures.bytes in
     let t = text_is (goal.at.returns c).After-put_line in
     record {
-      becomes = record { tape = ap (λ l. tape_in x.settings.tracks l (set (vec_items x.spans) k s) k s.count x.left x.failed) t ∙ tape_is x k i s f sm; settings = refl };
+      becomes = record { tape = (λ j. tape_in x.settings.tracks (t j) (set (vec_items x.spans) k s) k s.count (x.settings.volumes - length-set (vec_items x.spans) k s j / x.settings.tracks) x.failed) ∙ tape_is x k i s f sm; settings = refl };
       text = t ∙ ap (λ l. vec_items x.text ++ l) (line_is x k i s f sm);
       last = refl;
     }

@@ -1,5 +1,6 @@
 use Rattle.std.proofs.Common.{◌≡◌, ℕ, Bool, true, false, ◌&&◌, leb, List, take, drop, sym, refl, ap, ◌∙◌, arith, take_at, le-leb}
-use borrow.Author.Tests.{lt-leb}
+use Rattle.std.specs.Prelude.{is_some}
+use Rattle.std.proofs.lemmas.Option.{MatchOption-at_some}
 use Rattle.std.proofs.lemmas.Bool.{and_left, and_right, and_from, and_parts}
 use Rattle.tape.specs.Items.{Item, block, proper}
 use Rattle.line_text.specs.Lines.{unhexed}
@@ -7,9 +8,7 @@ use Rattle.line_text.proofs.Hex.{length_unhexed}
 use Rattle.line.specs.Meaning.{line_tape}
 use Rattle.line.specs.Taken.{is_own_line}
 use Rattle.line.proofs.Compare.{not_taken, took_as}
-use Rattle.std.proofs.ResultArms.{chosen}
 use Rattle.line.proofs.line_transport.LineTransport.take_block.Goals as goal
-use Rattle.line.proofs.line_transport.LineTransport.take_block.Goals.{then-size-eq0-via-then-size-eq0, then-size-eq0-via-else-size-eq0+then-not-copy_block}
 
 -- the block that the line tells
 abbrev told_block : List ℕ → ℕ → Item
@@ -23,15 +22,11 @@ both false = refl
 sized : (line : List ℕ) (size : ℕ) → proper (told_block line size) ≡ (leb 1 size && leb size 256)
 sized line size = ap (λ n. leb 1 n && leb n 256) (length_unhexed size (drop 50 line))
 
-pub returns-then-size-eq0 : goal.returns-then-size-eq0
-returns-then-size-eq0 c =
+pub returns-in_err-copy_block : goal.returns-in_err-copy_block
+returns-in_err-copy_block c =
     let size = c.args.size in
-    let bad : (leb 1 size && leb size 256) ≡ false =
-    elim c.then-size-eq0.branch [
-      | then-size-eq0-via-then-size-eq0 w ↦ and_left _ _ (lt-leb 1 size (omega (arith, w.if-size-eq0.true)))
-      | then-size-eq0-via-else-size-eq0+then-not-copy_block w ↦ and_right _ _ (sym (both (leb size 256)) ∙ sym w.copy_block.ensures.told ∙ w.if-not-copy_block.true)
-    ] in
-    not_taken (and_left _ _ (sized c.args.line.now size ∙ bad)) refl
+    let long : leb size 256 ≡ false = sym (both (leb size 256)) ∙ sym c.copy_block.ensures.told ∙ ap is_some c.in_err-copy_block.was in
+    rw c.from_residual.ensures (not_taken (and_left _ _ (sized c.args.line.now size ∙ and_right (leb 1 size) _ long)) refl)
 
 pub returns : goal.returns
 returns c =
@@ -39,7 +34,10 @@ returns c =
     let t = line_tape c.args.self.now in
     let line = c.args.line.now in
     let back = unhexed size (drop 50 line) in
-    let bytes = ap (take size) (chosen _ _ _ _ c.copy_block.ensures.bytes c.if-not-copy_block.false) ∙ take_at back _ size (length_unhexed size (drop 50 line)) in
-    let good : proper (told_block line size) ≡ true = sized line size ∙ and_from _ _ (le-leb 1 size (omega (arith, c.if-size-eq0.false))) (and_parts (leb size 256) (leb size 256) (sym c.copy_block.ensures.told ∙ c.if-not-copy_block.false)).1 in
-    let same : block (take size c.copy_block.new.out) ≡ told_block line size = ap block bytes in
+    let out = c.copy_block.new.out in
+    let copied = MatchOption-at_some _ _ _ c.in_ok-copy_block.was c.copy_block.ensures.bytes in
+    let bytes = ap (take size) copied ∙ take_at back _ size (length_unhexed size (drop 50 line)) in
+    let fits : (leb size 256 && leb size 256) ≡ true = sym c.copy_block.ensures.told ∙ ap is_some c.in_ok-copy_block.was in
+    let good : proper (told_block line size) ≡ true = sized line size ∙ and_from _ _ (le-leb 1 size (omega (arith, c.if-size-eq0.false))) (and_parts (leb size 256) (leb size 256) fits).1 in
+    let same : block (take size out) ≡ told_block line size = ap block bytes in
     took_as (ap (λ j. is_own_line t c.args.k j line) same ∙ sym (ap (λ b. b && is_own_line t c.args.k (told_block line size) line) good)) refl same c.take_item.ensures

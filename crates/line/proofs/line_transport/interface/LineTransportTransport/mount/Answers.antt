@@ -14,4 +14,4 @@ pub add_volume-requires : goal.add_volume-requires
 add_volume-requires c =
     let x = c.args.self.now in
     let t = line_tape x in
-    ltb-true 0 x.left (and_parts (any_items t && at_end t && on_last_track t) (ltb 0 x.left) (sym c.can_mount.ensures ∙ c.in_ok-applies.ensures.1)).1
+    ltb-true 0 t.left (and_parts (any_items t && at_end t && on_last_track t) (ltb 0 t.left) (sym c.can_mount.ensures ∙ c.in_ok-applies.ensures.1)).1

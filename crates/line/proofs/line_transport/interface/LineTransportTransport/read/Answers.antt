@@ -1,9 +1,10 @@
-use Rattle.std.proofs.Common.{◌≡◌, true, cond, sym, refl, ap, ◌∙◌, arith, rules}
+use Rattle.std.proofs.Common.{◌≡◌, true, sym, refl, ap, ◌∙◌, arith, rules}
+use Rattle.std.specs.Prelude.{is_some}
+use Rattle.std.proofs.lemmas.Option.{MatchOption-at_some}
 use Rattle.std.proofs.lemmas.Grind.{common_steps}
-use Rattle.tape.specs.declared.item.Kind.TheVariants as told
 use Rattle.tape.specs.Tape.{here, read_next, fits_in, filled}
 use Rattle.tape.proofs.Attempts.{read_done, next_there}
-use Rattle.line_text.proofs.OneLine.{block_size}
+use Rattle.line_text.proofs.OneLine.{size_by_kind}
 use Rattle.line.specs.Meaning.{line_tape, sure}
 use Rattle.line.specs.Ahead.{next}
 use Rattle.line.proofs.Facts.{next_proper}
@@ -15,24 +16,22 @@ returns-in_err-applies-clause-does c = (sure, search rules)
 pub returns-in_err-kind-clause-does : goal.returns-in_err-kind-clause-does
 returns-in_err-kind-clause-does c = (sure, search rules)
 
-pub returns-in_err-applies-in-Block-clause-does : goal.returns-in_err-applies-in-Block-clause-does
-returns-in_err-applies-in-Block-clause-does c = (sure, grind (arith, common_steps))
+pub returns-in_err-ok_or-clause-does : goal.returns-in_err-ok_or-clause-does
+returns-in_err-ok_or-clause-does c = (sure, grind (arith, common_steps))
 
-pub returns-in-Mark-clause-does : goal.returns-in-Mark-clause-does
-returns-in-Mark-clause-does c = (sure, search rules)
+pub pass-requires-clause-size : goal.pass-requires-clause-size
+pass-requires-clause-size c =
+    let x = c.args.self.now in
+    let n = next_there (here (line_tape x)).items x.head.item c.in_ok-kind.kind (sym c.in_ok-kind.ensures.ok_part ∙ c.next_kind.ensures) in
+    omega (arith, c.size_of_line.ensures, size_by_kind (next x) c.in_ok-kind.kind n.2 (next_proper x n.0))
 
-pub returns-in_ok-applies-in-Block-clause-does : goal.returns-in_ok-applies-in-Block-clause-does
-returns-in_ok-applies-in-Block-clause-does c =
+pub returns-clause-does : goal.returns-clause-does
+returns-clause-does c =
     let x = c.args.self.now in
     let t = line_tape x in
     let buffer = c.args.buffer.now in
     let n = next_there (here t).items x.head.item c.in_ok-kind.kind (sym c.in_ok-kind.ensures.ok_part ∙ c.next_kind.ensures) in
-    let long : fits_in (next x) buffer ≡ true = sym c.copy_bytes.ensures.told ∙ c.in_ok-applies-in-Block.ensures.1 in
-    let bytes : c.copy_bytes.new.buffer ≡ filled buffer (next x) = c.copy_bytes.ensures.bytes ∙ ap (λ b. cond b (filled buffer (next x)) buffer) c.in_ok-applies-in-Block.ensures.1 in
-    (sure, read_done sure t buffer (next x) (told.Block c.in-Block.size) c.copy_bytes.new.buffer (line_tape c.pass-in-Block.new.self) c.in_ok-applies.ensures.0 long refl (sym (n.2 ∙ c.in-Block.is)) bytes c.pass-in-Block.ensures.tape ∙ sym (ap (read_next sure t buffer) n.1))
-
-pub block_line-requires : goal.block_line-requires
-block_line-requires c =
-    let x = c.args.self.now in
-    let n = next_there (here (line_tape x)).items x.head.item c.in_ok-kind.kind (sym c.in_ok-kind.ensures.ok_part ∙ c.next_kind.ensures) in
-    (block_size (next x) c.in-Block.size (n.2 ∙ c.in-Block.is) (next_proper x n.0)).1
+    let copied = c.in_ok-ok_or.ensures.ok_part in
+    let long : fits_in (next x) buffer ≡ true = sym c.copy_bytes.ensures.told ∙ ap is_some copied in
+    let bytes : c.copy_bytes.new.buffer ≡ filled buffer (next x) = MatchOption-at_some _ _ _ copied c.copy_bytes.ensures.bytes in
+    (sure, read_done sure t buffer (next x) c.in_ok-kind.kind c.copy_bytes.new.buffer (line_tape c.pass.new.self) c.in_ok-applies.ensures.0 long refl (sym n.2) bytes c.pass.ensures.tape ∙ sym (ap (read_next sure t buffer) n.1))
