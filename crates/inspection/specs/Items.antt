@@ -10,7 +10,8 @@ use Rattle.labels.specs.Kinds.{kind_name}
 use Rattle.labels.specs.Layout.{LabelParts}
 use Rattle.labels.specs.Reading.{reading}
 use Rattle.inspection.specs.Pieces.{numbered, named}
-use Rattle.inspection.specs.Lines.{line_end, place_text}
+use Rattle.line_text.specs.Lines.{place_text}
+use Rattle.inspection.specs.Lines.{line_end}
 
 --  volume=|VOL1| file=|KNEAD 01| section=01 created=73345 retention=030 count=0000 code=1 user=|USER|
 abbrev pub parts_text : LabelParts → List ℕ
@@ -49,4 +50,4 @@ item_text (block bs) = numbered (codes " block ") 3 (length bs) ++ block_text (r
 
 -- vol=01 track=1 item=00002, and what the item is
 abbrev pub item_line : Place → Item → List ℕ
-item_line p i = place_text p ++ item_text i
+item_line p i = place_text p.volume p.track p.item ++ item_text i

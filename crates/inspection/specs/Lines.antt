@@ -1,6 +1,5 @@
--- The lines of the settings and of the totals, and the place that a line begins with. Assumes nothing.
+-- The lines of the settings and of the totals. Assumes nothing.
 use Rattle.std.specs.Prelude.{ℕ, List, [], ◌∷◌, ◌++◌, codes}
-use Rattle.tape.specs.declared.place.Place.{Place}
 use Rattle.inspection.specs.declared.totals.Totals.{Totals}
 use Rattle.inspection.specs.Pieces.{numbered}
 
@@ -11,10 +10,6 @@ line_end = 10 ∷ []
 abbrev pub settings_line : ℕ → ℕ → ℕ → List ℕ
 settings_line tracks volumes bytes =
     codes "settings" ++ (numbered (codes " tracks=") 1 tracks ++ (numbered (codes " volumes=") 2 volumes ++ (numbered (codes " text=") 10 bytes ++ line_end)))
-
--- vol=01 track=1 item=00002
-abbrev pub place_text : Place → List ℕ
-place_text p = numbered (codes "vol=") 2 p.volume ++ (numbered (codes " track=") 1 p.track ++ numbered (codes " item=") 5 p.item)
 
 --  items=00012 blocks=00007 marks=00005 bytes=00000300
 abbrev pub counts_text : Totals → ℕ → ℕ → List ℕ

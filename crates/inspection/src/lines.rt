@@ -1,10 +1,12 @@
 //! The lines of the settings and of the totals, and the place that a line begins with.
 ghost use Rattle.std.specs.Prelude.{◌<◌, ◌^◌};
-ghost use Rattle.inspection.specs.Lines.{settings_line, place_text, counts_text, track_line, total_line};
+ghost use Rattle.line_text.specs.Lines.{place_text};
+ghost use Rattle.inspection.specs.Lines.{settings_line, counts_text, track_line, total_line};
 
 use crate::told::{Named, Told};
 use crate::totals::{Sums, Totals};
 use figures::decimal::decimal;
+use line_text::lines::place_text;
 use std::alloc::AllocError;
 use tape::place::Place;
 
@@ -29,12 +31,10 @@ impl Told for SettingsLine {
 }
 
 impl Told for Place {
-    ghost text = { place_text };
+    ghost text = { λ p. place_text p.volume p.track p.item };
 
     fn tell(&self, out: &mut Vec<u8>) -> Result<(), AllocError> {
-        Named(b"vol=", &decimal::<2>(self.volume)).tell(out)?;
-        Named(b" track=", &decimal::<1>(self.track)).tell(out)?;
-        Named(b" item=", &decimal::<5>(self.item)).tell(out)
+        place_text(*self).tell(out)
     }
 }
 

@@ -16,6 +16,7 @@ pub(crate) struct Totals {
 
 impl Totals {
     /// The totals with one item more.
+    // Not by `plus`: the totals of one item would be written out all the same.
     pub(crate) fn with(self, kind: Kind) -> Totals
         ensures { result ≡ counted self kind }
     {

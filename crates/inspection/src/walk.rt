@@ -30,6 +30,7 @@ impl Walk {
     {
         let place = self.tape.place();
         let mut buffer = [0u8; LONGEST_BLOCK];
+        // the tape works and the buffer is long enough: only the track's end turns a read down
         let Ok(kind) = self.tape.read(&mut buffer) else {
             return Ok(None);
         };
@@ -58,6 +59,7 @@ impl Walk {
         requires { k < length (walked self.old).image }
         ensures { IfOk result (λ c. PutTrack self.old k c self.new) }
     {
+        // the track is there, so the seek finds it
         let _ = self.tape.seek_track(k);
         let place = self.tape.place();
         let totals = self.put_items()?;

@@ -76,6 +76,7 @@ fn make(rt: &impl Print, contents: Contents) -> io::Result<()> {
     match Label::new(contents) {
         Ok(label) => {
             let bytes = text(label.as_bytes());
+            // by hand: the crate that has these words stands on the line transport, and labels do not
             let back = if reads_back(&label, contents) {
                 "yes"
             } else {

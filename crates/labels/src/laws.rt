@@ -7,5 +7,5 @@ pub fn reading_gives_back_what_was_made() -> bool
     ensures law { GivesBack }
     ensures answer { result ≡ true }
 {
-    true
+    true // the clause holds the law
 }

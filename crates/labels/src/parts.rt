@@ -1,6 +1,7 @@
 //! The parts of a label behind its kind, borrowed from the block that was read.
 
 /// The parts of a label, in the order of the layout.
+// No Debug, here and of LabelRef: it would add a half to the time of the crate's check.
 #[derive(Clone, Copy)]
 pub struct Parts<'a> {
     pub volume: &'a [u8; 4],

@@ -2,7 +2,8 @@
 use crate::parts::Parts;
 
 /// Its kind, and its parts as the block has them.
-// A variant for each kind, so that who reads a label takes it apart by its kind.
+// A variant for each kind, for code that goes by the kind of what was read: a header begins a section,
+// and each trailer ends it in its own way.
 #[derive(Clone, Copy)]
 pub enum LabelRef<'a> {
     Hdr(Parts<'a>),

@@ -5,7 +5,7 @@ ghost use Rattle.line.specs.Settings.{lawful_settings};
 use tape::bounds::{FIRST_MARKER, LAST_MARKER, is_size};
 
 /// What a line transport is made for.
-#[derive(Clone, Copy)]
+#[derive(Clone, Copy, PartialEq, Eq, Debug)]
 pub struct Settings {
     /// The tracks of a volume: 1 or 2.
     pub tracks: usize,

@@ -161,8 +161,14 @@ fn offered(line: &mut LineTransport, text: &str) -> Result<(), Refusal> {
 }
 
 // Takes a text into a new transport, and tells what came of it.
-fn offer(rt: &HostRuntime, name: &str, chosen: Settings, text: &str) -> anyhow::Result<()> {
-    let mut line = LineTransport::new(rt.alloc(), chosen)?;
+fn offer(
+    rt: &impl Print,
+    alloc: Global,
+    name: &str,
+    chosen: Settings,
+    text: &str,
+) -> anyhow::Result<()> {
+    let mut line = LineTransport::new(alloc, chosen)?;
     let answer = offered(&mut line, text);
     let blank = yes(is_blank(&line));
     match answer {
@@ -172,62 +178,74 @@ fn offer(rt: &HostRuntime, name: &str, chosen: Settings, text: &str) -> anyhow::
     Ok(())
 }
 
-fn changes(rt: &HostRuntime, cases: &[Change]) -> anyhow::Result<()> {
+fn changes(rt: &impl Print, alloc: Global, cases: &[Change]) -> anyhow::Result<()> {
     for case in cases {
-        offer(rt, case.0, USUAL, case.text(rt.alloc())?.as_str())?;
+        offer(rt, alloc, case.0, USUAL, case.text(alloc)?.as_str())?;
     }
     Ok(())
 }
 
-fn sizes(rt: &HostRuntime) -> anyhow::Result<()> {
+fn sizes(rt: &impl Print, alloc: Global) -> anyhow::Result<()> {
     let front = GOOD.get(..FIFTH + SIZE).unwrap_or("");
     for (name, size, digits) in SIZES {
-        let text = format!(in rt.alloc(); "{front}{size} hex={:0digits$}\n", 0)?;
-        offer(rt, name, USUAL, text.as_str())?;
+        let text = format!(in alloc; "{front}{size} hex={:0digits$}\n", 0)?;
+        offer(rt, alloc, name, USUAL, text.as_str())?;
     }
     Ok(())
 }
 
-fn order(rt: &HostRuntime, name: &str, chosen: Settings, lines: &[usize]) -> anyhow::Result<()> {
-    let text = ordered(rt.alloc(), lines)?;
-    offer(rt, name, chosen, text.as_str())
+fn order(
+    rt: &impl Print,
+    alloc: Global,
+    name: &str,
+    chosen: Settings,
+    lines: &[usize],
+) -> anyhow::Result<()> {
+    let text = ordered(alloc, lines)?;
+    offer(rt, alloc, name, chosen, text.as_str())
 }
 
-fn orders(rt: &HostRuntime) -> anyhow::Result<()> {
+fn orders(rt: &impl Print, alloc: Global) -> anyhow::Result<()> {
     for (name, lines) in ORDERS {
-        order(rt, name, USUAL, lines)?;
+        order(rt, alloc, name, USUAL, lines)?;
     }
     Ok(())
 }
 
-fn volumes(rt: &HostRuntime) -> anyhow::Result<()> {
+fn volumes(rt: &impl Print, alloc: Global) -> anyhow::Result<()> {
     for (name, digits, volumes) in VOLUMES {
-        let text = Change(name, SIXTH + VOLUME, 2, digits).text(rt.alloc())?;
-        offer(rt, name, Settings { volumes, ..USUAL }, text.as_str())?;
+        let text = Change(name, SIXTH + VOLUME, 2, digits).text(alloc)?;
+        offer(
+            rt,
+            alloc,
+            name,
+            Settings { volumes, ..USUAL },
+            text.as_str(),
+        )?;
     }
     Ok(())
 }
 
-fn limits(rt: &HostRuntime) -> anyhow::Result<()> {
+fn limits(rt: &impl Print, alloc: Global) -> anyhow::Result<()> {
     let one = Settings { tracks: 1, ..USUAL };
-    order(rt, "track 2 with one track", one, &[0, 1, 2, 3])?;
-    order(rt, "track 1 with one track", one, &[0, 1, 2, 4])?;
+    order(rt, alloc, "track 2 with one track", one, &[0, 1, 2, 3])?;
+    order(rt, alloc, "track 1 with one track", one, &[0, 1, 2, 4])?;
     for (name, room) in [
         ("room for one byte less", END - 1),
         ("room for the text", END),
     ] {
-        offer(rt, name, Settings { room, ..USUAL }, GOOD)?;
+        offer(rt, alloc, name, Settings { room, ..USUAL }, GOOD)?;
     }
     Ok(())
 }
 
-pub(crate) fn run(rt: &HostRuntime) -> anyhow::Result<()> {
-    changes(rt, &WORDS)?;
-    changes(rt, &NUMBERS)?;
-    changes(rt, &BLOCKS)?;
-    sizes(rt)?;
-    changes(rt, &ENDS)?;
-    orders(rt)?;
-    volumes(rt)?;
-    limits(rt)
+pub(crate) fn run(rt: &impl Print, alloc: Global) -> anyhow::Result<()> {
+    changes(rt, alloc, &WORDS)?;
+    changes(rt, alloc, &NUMBERS)?;
+    changes(rt, alloc, &BLOCKS)?;
+    sizes(rt, alloc)?;
+    changes(rt, alloc, &ENDS)?;
+    orders(rt, alloc)?;
+    volumes(rt, alloc)?;
+    limits(rt, alloc)
 }

@@ -2,13 +2,13 @@
 use case_words::answer::{Answer, yes};
 use line::line_transport::LineTransport;
 use std::fmt;
-use tape::bounds::MOST_ITEMS;
+use tape::bounds::{LONGEST_BLOCK, MOST_ITEMS};
 use tape::item::Kind;
 use tape::place::Place;
 use tape::refusal::Refusal;
 use tape::transport::{Fault, Transport};
 
-/// A place in short.
+/// A place in short. Each program prints it in its own form, which its stored output has.
 #[derive(Clone, Copy)]
 pub(crate) struct At(pub(crate) Place);
 
@@ -19,7 +19,8 @@ impl fmt::Display for At {
     }
 }
 
-/// Why a call was refused, by which layer, and the place that the refusal speaks of.
+/// Why a call was refused, by which layer, and the place that the refusal speaks of. Each program
+/// prints it in its own form, which its stored output has.
 #[derive(Clone, Copy)]
 pub(crate) struct Refused(pub(crate) Refusal);
 
@@ -74,19 +75,22 @@ pub(crate) fn passed(answer: Result<Kind, Fault>) -> Answer {
     Answer(answer.map(kind_word))
 }
 
-fn passes(line: &mut LineTransport) -> bool {
-    let mut buffer = [0u8; 256];
-    line.read(&mut buffer).is_ok()
+/// Makes a call until one does not hold, so many times at most, and counts those that do.
+pub(crate) fn count_while<F: FnMut() -> bool>(most: usize, mut call: F) -> usize
+    requires { F.IsAlwaysCallable call }
+{
+    for held in 0..most {
+        if !call() {
+            return held;
+        }
+    }
+    most
 }
 
 /// Passes the items that the head's track still has, and counts them.
 pub(crate) fn pass_all(line: &mut LineTransport) -> usize {
-    for passed in 0..MOST_ITEMS {
-        if !passes(line) {
-            return passed;
-        }
-    }
-    MOST_ITEMS
+    let mut buffer = [0; LONGEST_BLOCK];
+    count_while(MOST_ITEMS, || line.read(&mut buffer).is_ok())
 }
 
 /// The items of a track, which are passed.

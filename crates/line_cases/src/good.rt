@@ -5,6 +5,7 @@ use case_words::answer::{Answer, written, yes};
 use case_words::settings::USUAL;
 use line::line_transport::LineTransport;
 use line::settings::Settings;
+use std::alloc::Global;
 use std::io;
 use tape::item::ItemRef;
 use tape::transport::Transport;
@@ -29,7 +30,7 @@ const THREE_VOLUMES: Settings = Settings {
 };
 
 // Of each track: how many items it has, and whether its marker is met.
-fn show_tracks(rt: &HostRuntime, line: &mut LineTransport) -> io::Result<()> {
+fn show_tracks(rt: &impl Print, line: &mut LineTransport) -> io::Result<()> {
     for k in 0..line.all_tracks() {
         let items = pass_track(line, k);
         let marked = if line.marked() { "m" } else { "" };
@@ -47,8 +48,14 @@ fn one_more(line: &mut LineTransport, k: usize) -> Answer {
     written(line.write(ItemRef::Mark))
 }
 
-fn good(rt: &HostRuntime, name: &str, text: &[u8], last: usize) -> anyhow::Result<()> {
-    let mut line = LineTransport::new(rt.alloc(), THREE_VOLUMES)?;
+fn good(
+    rt: &impl Print,
+    alloc: Global,
+    name: &str,
+    text: &[u8],
+    last: usize,
+) -> anyhow::Result<()> {
+    let mut line = LineTransport::new(alloc, THREE_VOLUMES)?;
     print!(rt; "{name}: {} tracks", take(&mut line, text))?;
     show_tracks(rt, &mut line)?;
     let on_last = one_more(&mut line, last);
@@ -59,8 +66,8 @@ fn good(rt: &HostRuntime, name: &str, text: &[u8], last: usize) -> anyhow::Resul
 }
 
 // A text in place of another.
-fn again(rt: &HostRuntime) -> anyhow::Result<()> {
-    let mut line = LineTransport::new(rt.alloc(), THREE_VOLUMES)?;
+fn again(rt: &impl Print, alloc: Global) -> anyhow::Result<()> {
+    let mut line = LineTransport::new(alloc, THREE_VOLUMES)?;
     let first = yes(line.take(BLANK_VOLUME).is_ok());
     let second = yes(line.take(SECOND_TRACK).is_ok());
     let same = yes(line.text() == SECOND_TRACK);
@@ -69,12 +76,12 @@ fn again(rt: &HostRuntime) -> anyhow::Result<()> {
     Ok(())
 }
 
-pub(crate) fn run(rt: &HostRuntime) -> anyhow::Result<()> {
-    good(rt, "empty text", b"", 0)?;
-    good(rt, "one mark", MARK, 0)?;
-    good(rt, "two tracks", TWO_TRACKS, 1)?;
-    good(rt, "track 2 only", SECOND_TRACK, 1)?;
-    good(rt, "volume 2 only", SECOND_VOLUME, 2)?;
-    good(rt, "a blank volume in the middle", BLANK_VOLUME, 4)?;
-    again(rt)
+pub(crate) fn run(rt: &impl Print, alloc: Global) -> anyhow::Result<()> {
+    good(rt, alloc, "empty text", b"", 0)?;
+    good(rt, alloc, "one mark", MARK, 0)?;
+    good(rt, alloc, "two tracks", TWO_TRACKS, 1)?;
+    good(rt, alloc, "track 2 only", SECOND_TRACK, 1)?;
+    good(rt, alloc, "volume 2 only", SECOND_VOLUME, 2)?;
+    good(rt, alloc, "a blank volume in the middle", BLANK_VOLUME, 4)?;
+    again(rt, alloc)
 }

@@ -4,25 +4,29 @@ use case_words::answer::{Answer, found, moved, written, yes};
 use case_words::settings::USUAL;
 use line::line_transport::LineTransport;
 use line::settings::Settings;
+use std::alloc::Global;
 use std::io;
+use tape::bounds::LONGEST_BLOCK;
 use tape::item::ItemRef;
 use tape::transport::Transport;
 
 // A transport whose head is moved, and where each move is told.
 #[derive(Drop)]
-struct Moves<'a> {
-    rt: &'a HostRuntime,
+struct Moves<'a, R> {
+    rt: &'a R,
     line: LineTransport,
 }
 
-impl Moves<'_> {
+impl<R: Print> Moves<'_, R> {
     // Where the head stands, and what comes next there.
     fn here(&mut self) -> io::Result<()> {
         let look = seen(self.line.look());
         println!(self.rt; " at {} look={look}", At(self.line.place()))
     }
 
-    // What a call came to, which is made before: a closure would borrow the line beside the handle.
+    // Tells what a call came to. The word is made before: the check refuses a closure that returns an
+    // `Answer`, for the `&'static str` in it ("a field that is a reference is given a reference at
+    // another lifetime"), and one that returns any `A: fmt::Display` is no shorter.
     fn step(&mut self, call: &str, name: &str, word: Answer) -> io::Result<()> {
         print!(self.rt; "{call} {name}: {word}")?;
         self.here()
@@ -49,7 +53,7 @@ impl Moves<'_> {
     }
 
     fn pass(&mut self, name: &str) -> io::Result<()> {
-        let word = passed(self.line.read(&mut [0; 256]));
+        let word = passed(self.line.read(&mut [0; LONGEST_BLOCK]));
         self.step("read", name, word)
     }
 
@@ -107,12 +111,12 @@ impl Moves<'_> {
     }
 }
 
-pub(crate) fn run(rt: &HostRuntime) -> anyhow::Result<()> {
-    let line = LineTransport::new(rt.alloc(), USUAL)?;
+pub(crate) fn run(rt: &impl Print, alloc: Global) -> anyhow::Result<()> {
+    let line = LineTransport::new(alloc, USUAL)?;
     let mut moves = Moves { rt, line };
     moves.tracks()?;
     moves.volumes()?;
-    moves.line = LineTransport::new(rt.alloc(), Settings { tracks: 1, ..USUAL })?;
+    moves.line = LineTransport::new(alloc, Settings { tracks: 1, ..USUAL })?;
     moves.mounts()?;
     Ok(())
 }

@@ -13,18 +13,20 @@ mod reads;
 mod room;
 mod trip;
 
-fn run(rt: &HostRuntime) -> anyhow::Result<()> {
-    bad::run(rt)?;
-    good::run(rt)?;
-    ranges::run(rt)?;
-    room::run(rt)?;
-    marker::run(rt)?;
-    head::run(rt)?;
-    reads::run(rt)?;
-    trip::run(rt)?;
-    many::run(rt)
+use std::alloc::Global;
+
+fn run(rt: &impl Print, alloc: Global) -> anyhow::Result<()> {
+    bad::run(rt, alloc)?;
+    good::run(rt, alloc)?;
+    ranges::run(rt, alloc)?;
+    room::run(rt, alloc)?;
+    marker::run(rt, alloc)?;
+    head::run(rt, alloc)?;
+    reads::run(rt, alloc)?;
+    trip::run(rt, alloc)?;
+    many::run(rt, alloc)
 }
 
 fn main(rt: HostRuntime) -> anyhow::Result<()> {
-    run(&rt)
+    run(&rt, rt.alloc())
 }

@@ -1,16 +1,17 @@
 //! Many items and many volumes, so that every digit of a line's numbers is used.
-use crate::common::take;
+use crate::common::{count_while, take};
 use case_words::answer::moved;
 use case_words::settings::USUAL;
 use line::line_transport::LineTransport;
 use line::settings::Settings;
 use line_text::lines::{block_head_of, head_of};
+use std::alloc::Global;
 use std::str::from_utf8;
 use tape::item::ItemRef;
 use tape::place::Place;
 use tape::transport::Transport;
 
-// Room for just so many marks.
+// Room for 123 marks, of 36 bytes each, and no more.
 const ITEMS: Settings = Settings {
     tracks: 1,
     volumes: 1,
@@ -24,7 +25,7 @@ const VOLUMES: Settings = Settings {
     ..USUAL
 };
 
-fn show_last(rt: &HostRuntime, line: &LineTransport) -> anyhow::Result<()> {
+fn show_last(rt: &impl Print, line: &LineTransport) -> anyhow::Result<()> {
     let last = from_utf8(line.text())?.lines().last().unwrap_or("");
     println!(rt; "{last}")?;
     Ok(())
@@ -32,26 +33,21 @@ fn show_last(rt: &HostRuntime, line: &LineTransport) -> anyhow::Result<()> {
 
 // Marks until one is not taken, and how many are.
 fn marks(line: &mut LineTransport, n: usize) -> usize {
-    for taken in 0..n {
-        if line.write(ItemRef::Mark).is_err() {
-            return taken;
-        }
-    }
-    n
+    count_while(n, || line.write(ItemRef::Mark).is_ok())
 }
 
-fn items(rt: &HostRuntime) -> anyhow::Result<()> {
-    let mut from = LineTransport::new(rt.alloc(), ITEMS)?;
+fn items(rt: &impl Print, alloc: Global) -> anyhow::Result<()> {
+    let mut from = LineTransport::new(alloc, ITEMS)?;
     let written = marks(&mut from, 123);
-    let mut to = LineTransport::new(rt.alloc(), ITEMS)?;
+    let mut to = LineTransport::new(alloc, ITEMS)?;
     let taking = take(&mut to, from.text());
     println!(rt; "many items: {written} {taking}")?;
     show_last(rt, &from)
 }
 
 // A mark on each volume.
-fn volumes(rt: &HostRuntime) -> anyhow::Result<()> {
-    let mut line = LineTransport::new(rt.alloc(), VOLUMES)?;
+fn volumes(rt: &impl Print, alloc: Global) -> anyhow::Result<()> {
+    let mut line = LineTransport::new(alloc, VOLUMES)?;
     let mut written = marks(&mut line, 1);
     for _ in 0..48 {
         let _ = line.mount();
@@ -63,7 +59,7 @@ fn volumes(rt: &HostRuntime) -> anyhow::Result<()> {
 }
 
 // The parts of a line with numbers that use every digit.
-fn parts(rt: &HostRuntime) -> anyhow::Result<()> {
+fn parts(rt: &impl Print) -> anyhow::Result<()> {
     let head = head_of(Place {
         volume: 49,
         track: 2,
@@ -78,8 +74,8 @@ fn parts(rt: &HostRuntime) -> anyhow::Result<()> {
     Ok(())
 }
 
-pub(crate) fn run(rt: &HostRuntime) -> anyhow::Result<()> {
-    items(rt)?;
-    volumes(rt)?;
+pub(crate) fn run(rt: &impl Print, alloc: Global) -> anyhow::Result<()> {
+    items(rt, alloc)?;
+    volumes(rt, alloc)?;
     parts(rt)
 }

@@ -3,11 +3,12 @@ use case_words::answer::{moved, written, yes};
 use case_words::settings::USUAL;
 use line::line_transport::LineTransport;
 use line::settings::Settings;
+use std::alloc::Global;
 use std::io;
 use tape::item::ItemRef;
 use tape::transport::Transport;
 
-fn marks(rt: &HostRuntime, line: &mut LineTransport, n: usize) -> io::Result<()> {
+fn marks(rt: &impl Print, line: &mut LineTransport, n: usize) -> io::Result<()> {
     for _ in 0..n {
         let word = written(line.write(ItemRef::Mark));
         let marked = yes(line.marked());
@@ -17,8 +18,8 @@ fn marks(rt: &HostRuntime, line: &mut LineTransport, n: usize) -> io::Result<()>
 }
 
 // The answer of each write, and whether the marker is met behind it.
-fn met(rt: &HostRuntime, marker: usize, n: usize) -> anyhow::Result<()> {
-    let mut line = LineTransport::new(rt.alloc(), Settings { marker, ..USUAL })?;
+fn met(rt: &impl Print, alloc: Global, marker: usize, n: usize) -> anyhow::Result<()> {
+    let mut line = LineTransport::new(alloc, Settings { marker, ..USUAL })?;
     print!(rt; "marker {marker}:")?;
     marks(rt, &mut line, n)?;
     let bytes = line.text().len();
@@ -29,7 +30,7 @@ fn met(rt: &HostRuntime, marker: usize, n: usize) -> anyhow::Result<()> {
     Ok(())
 }
 
-fn block(rt: &HostRuntime, line: &mut LineTransport, bytes: &[u8]) -> io::Result<()> {
+fn block(rt: &impl Print, line: &mut LineTransport, bytes: &[u8]) -> io::Result<()> {
     let size = bytes.len();
     let before = line.text().len();
     let word = written(line.write(ItemRef::Block(bytes)));
@@ -37,7 +38,7 @@ fn block(rt: &HostRuntime, line: &mut LineTransport, bytes: &[u8]) -> io::Result
     println!(rt; "  a block of {size}: {word} bytes={more}")
 }
 
-fn blocks(rt: &HostRuntime, line: &mut LineTransport) -> io::Result<()> {
+fn blocks(rt: &impl Print, line: &mut LineTransport) -> io::Result<()> {
     let bytes = [65u8; 257];
     for size in [0, 1, 32, 33, 256, 257] {
         block(rt, line, bytes.get(..size).unwrap_or(&bytes))?;
@@ -45,9 +46,9 @@ fn blocks(rt: &HostRuntime, line: &mut LineTransport) -> io::Result<()> {
     Ok(())
 }
 
-fn sizes(rt: &HostRuntime) -> anyhow::Result<()> {
+fn sizes(rt: &impl Print, alloc: Global) -> anyhow::Result<()> {
     let mut line = LineTransport::new(
-        rt.alloc(),
+        alloc,
         Settings {
             marker: 10,
             ..USUAL
@@ -58,8 +59,8 @@ fn sizes(rt: &HostRuntime) -> anyhow::Result<()> {
     Ok(())
 }
 
-fn sizes_behind(rt: &HostRuntime) -> anyhow::Result<()> {
-    let mut line = LineTransport::new(rt.alloc(), Settings { marker: 3, ..USUAL })?;
+fn sizes_behind(rt: &impl Print, alloc: Global) -> anyhow::Result<()> {
+    let mut line = LineTransport::new(alloc, Settings { marker: 3, ..USUAL })?;
     print!(rt; "behind the marker:")?;
     marks(rt, &mut line, 3)?;
     blocks(rt, &mut line)?;
@@ -67,24 +68,24 @@ fn sizes_behind(rt: &HostRuntime) -> anyhow::Result<()> {
 }
 
 // The write that meets the marker may be a long block.
-fn long_at_marker(rt: &HostRuntime) -> anyhow::Result<()> {
+fn long_at_marker(rt: &impl Print, alloc: Global) -> anyhow::Result<()> {
     let one = Settings {
         tracks: 1,
         volumes: 1,
         marker: 3,
         ..USUAL
     };
-    let mut line = LineTransport::new(rt.alloc(), one)?;
+    let mut line = LineTransport::new(alloc, one)?;
     print!(rt; "a long block at the marker:")?;
     marks(rt, &mut line, 2)?;
     block(rt, &mut line, &[66u8; 256])?;
     Ok(())
 }
 
-pub(crate) fn run(rt: &HostRuntime) -> anyhow::Result<()> {
-    met(rt, 3, 12)?;
-    met(rt, 4, 13)?;
-    sizes(rt)?;
-    sizes_behind(rt)?;
-    long_at_marker(rt)
+pub(crate) fn run(rt: &impl Print, alloc: Global) -> anyhow::Result<()> {
+    met(rt, alloc, 3, 12)?;
+    met(rt, alloc, 4, 13)?;
+    sizes(rt, alloc)?;
+    sizes_behind(rt, alloc)?;
+    long_at_marker(rt, alloc)
 }

@@ -4,6 +4,7 @@ use case_words::answer::yes;
 use case_words::blank::is_blank;
 use line::line_transport::LineTransport;
 use line::settings::Settings;
+use std::alloc::Global;
 use std::io;
 use tape::refusal::SetupError;
 
@@ -15,9 +16,15 @@ const SMALL: Settings = Settings {
 };
 
 // Makes a transport with one setting of this value, and tells what came of it.
-fn range(rt: &HostRuntime, name: &str, value: usize, chosen: Settings) -> io::Result<()> {
+fn range(
+    rt: &impl Print,
+    alloc: Global,
+    name: &str,
+    value: usize,
+    chosen: Settings,
+) -> io::Result<()> {
     print!(rt; "{name} {value}: ")?;
-    match LineTransport::new(rt.alloc(), chosen) {
+    match LineTransport::new(alloc, chosen) {
         Ok(line) => println!(rt; "made blank={}", yes(is_blank(&line))),
         Err(SetupError::Refused(refusal)) => rt.println(Refused(refusal)),
         Err(error) => rt.println(error),
@@ -26,7 +33,8 @@ fn range(rt: &HostRuntime, name: &str, value: usize, chosen: Settings) -> io::Re
 
 // Each of these values of one setting, with `set` to choose it.
 fn values<F: Fn(usize) -> Settings>(
-    rt: &HostRuntime,
+    rt: &impl Print,
+    alloc: Global,
     name: &str,
     values: &[usize],
     set: F,
@@ -34,21 +42,21 @@ fn values<F: Fn(usize) -> Settings>(
     requires { F.IsAlwaysCallable set }
 {
     for value in values {
-        range(rt, name, *value, set(*value))?;
+        range(rt, alloc, name, *value, set(*value))?;
     }
     Ok(())
 }
 
-pub(crate) fn run(rt: &HostRuntime) -> io::Result<()> {
+pub(crate) fn run(rt: &impl Print, alloc: Global) -> io::Result<()> {
     let tracks = |tracks| Settings { tracks, ..SMALL };
     let volumes = |volumes| Settings { volumes, ..SMALL };
     let marker = |marker| Settings { marker, ..SMALL };
     let room = |room| Settings { room, ..SMALL };
-    values(rt, "tracks", &[0, 3], &tracks)?;
-    values(rt, "volumes", &[0, 50], &volumes)?;
-    values(rt, "marker", &[2, 60001], &marker)?;
-    values(rt, "tracks", &[1, 2], &tracks)?;
-    values(rt, "volumes", &[1, 49], &volumes)?;
-    values(rt, "marker", &[3, 60000], &marker)?;
-    values(rt, "room", &[0], &room)
+    values(rt, alloc, "tracks", &[0, 3], &tracks)?;
+    values(rt, alloc, "volumes", &[0, 50], &volumes)?;
+    values(rt, alloc, "marker", &[2, 60001], &marker)?;
+    values(rt, alloc, "tracks", &[1, 2], &tracks)?;
+    values(rt, alloc, "volumes", &[1, 49], &volumes)?;
+    values(rt, alloc, "marker", &[3, 60000], &marker)?;
+    values(rt, alloc, "room", &[0], &room)
 }

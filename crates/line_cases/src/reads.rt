@@ -3,11 +3,12 @@ use crate::common::{passed, seen};
 use case_words::answer::{written, yes};
 use case_words::settings::USUAL;
 use line::line_transport::LineTransport;
+use std::alloc::Global;
 use std::io;
 use tape::item::{ItemRef, Kind};
 use tape::transport::Transport;
 
-// A block's size, and 0 of anything else.
+// A block's size, and 0 of anything else, as the stored output has it.
 fn block_size(kind: Option<Kind>) -> usize {
     match kind {
         Some(Kind::Block(size)) => size,
@@ -17,7 +18,7 @@ fn block_size(kind: Option<Kind>) -> usize {
 
 // Reads into a buffer, and tells whether it then holds what it should.
 fn read(
-    rt: &HostRuntime,
+    rt: &impl Print,
     line: &mut LineTransport,
     buffer: &mut [u8],
     wanted: &[u8],
@@ -36,7 +37,7 @@ fn read(
     )
 }
 
-fn recorded(rt: &HostRuntime, line: &mut LineTransport) -> io::Result<()> {
+fn recorded(rt: &impl Print, line: &mut LineTransport) -> io::Result<()> {
     let block = written(line.write(ItemRef::Block(b"WXYZ")));
     let mark = written(line.write(ItemRef::Mark));
     let long = written(line.write(ItemRef::Block(&[200u8; 256])));
@@ -44,8 +45,8 @@ fn recorded(rt: &HostRuntime, line: &mut LineTransport) -> io::Result<()> {
     println!(rt; "reads: {block} {mark} {long} back={back}")
 }
 
-pub(crate) fn run(rt: &HostRuntime) -> anyhow::Result<()> {
-    let mut line = LineTransport::new(rt.alloc(), USUAL)?;
+pub(crate) fn run(rt: &impl Print, alloc: Global) -> anyhow::Result<()> {
+    let mut line = LineTransport::new(alloc, USUAL)?;
     recorded(rt, &mut line)?;
     read(rt, &mut line, &mut [1, 2, 3], &[1, 2, 3])?;
     read(rt, &mut line, &mut [9; 6], b"WXYZ\x09\x09")?;

@@ -7,7 +7,9 @@ use case_words::settings::USUAL;
 use case_words::status::StatusWords;
 use line::line_transport::LineTransport;
 use line::settings::Settings;
+use std::alloc::Global;
 use std::io;
+use tape::bounds::LONGEST_BLOCK;
 use tape::item::ItemRef;
 use tape::status::Status;
 use tape::transport::Transport;
@@ -15,10 +17,10 @@ use tape::transport::Transport;
 const TWO_MARKS: &[u8] = b"vol=01 track=1 item=00001 kind=mark\n\
 vol=01 track=1 item=00002 kind=mark\n";
 
-fn calls(rt: &HostRuntime, line: &mut LineTransport) -> io::Result<()> {
+fn calls(rt: &impl Print, line: &mut LineTransport) -> io::Result<()> {
     let write = written(line.write(ItemRef::Mark));
     let look = seen(line.look());
-    let read = passed(line.read(&mut [0; 256]));
+    let read = passed(line.read(&mut [0; LONGEST_BLOCK]));
     let rewind = moved(line.rewind());
     println!(rt; "  write={write} look={look} read={read} rewind={rewind}")?;
     let next = moved(line.next_track());
@@ -27,14 +29,14 @@ fn calls(rt: &HostRuntime, line: &mut LineTransport) -> io::Result<()> {
     println!(rt; "  next track={next} mount={mount} following={following}")
 }
 
-fn questions(rt: &HostRuntime, line: &LineTransport) -> io::Result<()> {
+fn questions(rt: &impl Print, line: &LineTransport) -> io::Result<()> {
     let status = Status::of(line);
     println!(rt; "  place={} {}", At(status.place), StatusWords(status))
 }
 
 // Marks until one fails, then each function, and what the tape still has.
-fn filled(rt: &HostRuntime, room: usize) -> anyhow::Result<()> {
-    let mut line = LineTransport::new(rt.alloc(), Settings { room, ..USUAL })?;
+fn filled(rt: &impl Print, alloc: Global, room: usize) -> anyhow::Result<()> {
+    let mut line = LineTransport::new(alloc, Settings { room, ..USUAL })?;
     print!(rt; "room {room}, three marks:")?;
     for _ in 0..3 {
         print!(rt; " {}", written(line.write(ItemRef::Mark)))?;
@@ -47,8 +49,8 @@ fn filled(rt: &HostRuntime, room: usize) -> anyhow::Result<()> {
     Ok(())
 }
 
-fn block(rt: &HostRuntime, room: usize, bytes: &[u8]) -> anyhow::Result<()> {
-    let mut line = LineTransport::new(rt.alloc(), Settings { room, ..USUAL })?;
+fn block(rt: &impl Print, alloc: Global, room: usize, bytes: &[u8]) -> anyhow::Result<()> {
+    let mut line = LineTransport::new(alloc, Settings { room, ..USUAL })?;
     let size = bytes.len();
     let word = written(line.write(ItemRef::Block(bytes)));
     let failed = yes(line.failed());
@@ -58,8 +60,8 @@ fn block(rt: &HostRuntime, room: usize, bytes: &[u8]) -> anyhow::Result<()> {
 }
 
 // A write that cannot apply is turned down where its line would not fit either.
-fn down_first(rt: &HostRuntime) -> anyhow::Result<()> {
-    let mut line = LineTransport::new(rt.alloc(), Settings { room: 10, ..USUAL })?;
+fn down_first(rt: &impl Print, alloc: Global) -> anyhow::Result<()> {
+    let mut line = LineTransport::new(alloc, Settings { room: 10, ..USUAL })?;
     let empty = written(line.write(ItemRef::Block(b"")));
     let failed = yes(line.failed());
     let mark = written(line.write(ItemRef::Mark));
@@ -68,8 +70,8 @@ fn down_first(rt: &HostRuntime) -> anyhow::Result<()> {
 }
 
 // A text that is taken ends the failure.
-fn taken_after(rt: &HostRuntime) -> anyhow::Result<()> {
-    let mut line = LineTransport::new(rt.alloc(), Settings { room: 72, ..USUAL })?;
+fn taken_after(rt: &impl Print, alloc: Global) -> anyhow::Result<()> {
+    let mut line = LineTransport::new(alloc, Settings { room: 72, ..USUAL })?;
     for _ in 0..3 {
         let _ = line.write(ItemRef::Mark);
     }
@@ -84,15 +86,15 @@ fn taken_after(rt: &HostRuntime) -> anyhow::Result<()> {
     Ok(())
 }
 
-pub(crate) fn run(rt: &HostRuntime) -> anyhow::Result<()> {
-    filled(rt, 72)?;
-    filled(rt, 71)?;
-    filled(rt, 108)?;
-    block(rt, 53, b"A")?;
-    block(rt, 52, b"A")?;
-    block(rt, 563, &[7; 256])?;
-    block(rt, 562, &[7; 256])?;
-    block(rt, 50, b"A")?;
-    down_first(rt)?;
-    taken_after(rt)
+pub(crate) fn run(rt: &impl Print, alloc: Global) -> anyhow::Result<()> {
+    filled(rt, alloc, 72)?;
+    filled(rt, alloc, 71)?;
+    filled(rt, alloc, 108)?;
+    block(rt, alloc, 53, b"A")?;
+    block(rt, alloc, 52, b"A")?;
+    block(rt, alloc, 563, &[7; 256])?;
+    block(rt, alloc, 562, &[7; 256])?;
+    block(rt, alloc, 50, b"A")?;
+    down_first(rt, alloc)?;
+    taken_after(rt, alloc)
 }

@@ -3,6 +3,7 @@ use crate::common::{pass_track, take};
 use case_words::answer::yes;
 use case_words::settings::USUAL;
 use line::line_transport::LineTransport;
+use std::alloc::Global;
 use std::io;
 use std::str::from_utf8;
 use tape::item::ItemRef;
@@ -30,7 +31,7 @@ fn second_volume(line: &mut LineTransport) -> Result<bool, Fault> {
     line.write(ItemRef::Block(&[154]))
 }
 
-fn write(rt: &HostRuntime, line: &mut LineTransport) -> anyhow::Result<()> {
+fn write(rt: &impl Print, line: &mut LineTransport) -> anyhow::Result<()> {
     let first = yes(first_volume(line).is_ok());
     let second = yes(second_volume(line).is_ok());
     let same = yes(line.text() == WRITTEN);
@@ -39,7 +40,7 @@ fn write(rt: &HostRuntime, line: &mut LineTransport) -> anyhow::Result<()> {
     Ok(())
 }
 
-fn tracks(rt: &HostRuntime, line: &mut LineTransport) -> io::Result<()> {
+fn tracks(rt: &impl Print, line: &mut LineTransport) -> io::Result<()> {
     print!(rt; "taken again, items:")?;
     for k in 0..line.all_tracks() {
         print!(rt; " {}", pass_track(line, k))?;
@@ -47,10 +48,10 @@ fn tracks(rt: &HostRuntime, line: &mut LineTransport) -> io::Result<()> {
     println!(rt)
 }
 
-pub(crate) fn run(rt: &HostRuntime) -> anyhow::Result<()> {
-    let mut from = LineTransport::new(rt.alloc(), USUAL)?;
+pub(crate) fn run(rt: &impl Print, alloc: Global) -> anyhow::Result<()> {
+    let mut from = LineTransport::new(alloc, USUAL)?;
     write(rt, &mut from)?;
-    let mut to = LineTransport::new(rt.alloc(), USUAL)?;
+    let mut to = LineTransport::new(alloc, USUAL)?;
     println!(rt; "taken again: {}", take(&mut to, from.text()))?;
     tracks(rt, &mut to)?;
     Ok(())

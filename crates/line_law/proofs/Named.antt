@@ -2,7 +2,7 @@
 use Rattle.std.proofs.Common.{◌≡◌, ℕ, ◌+◌, ◌-◌, ◌*◌, ◌/◌, ◌%◌, ◌<◌, ◌≤◌, List, ◌++◌, ◌∙◌, mod-lt, div-lt_iff_lt-mul, div-add-mod', arith}
 use Rattle.tape.specs.Items.{Item}
 use Rattle.tape.specs.Tape.{most_tracks, most_volumes}
-use Rattle.line_text.specs.Lines.{line, line_head, volume_in, track_in}
+use Rattle.line_text.specs.Lines.{line, place_text, line_head, volume_in, track_in}
 use Rattle.line.specs.Taken.{track_named}
 
 two_digits : (v : ℕ) → v < 100 → 10 * (48 + v / 10 % 10 - 48) + (48 + v % 10 - 48) ≡ v
@@ -12,11 +12,11 @@ one_digit : (t : ℕ) → t < 10 → 48 + t % 10 - 48 ≡ t
 one_digit t h = omega arith
 
 volume_of_own_line : (v t n : ℕ) (i : Item) (rest : List ℕ) → v < 100 → volume_in (line v t n i ++ rest) ≡ v
-unfolding line line_head
+unfolding line line_head place_text
 volume_of_own_line v t n i rest h = two_digits v h
 
 track_of_own_line : (v t n : ℕ) (i : Item) (rest : List ℕ) → t < 10 → track_in (line v t n i ++ rest) ≡ t
-unfolding line line_head
+unfolding line line_head place_text
 track_of_own_line v t n i rest h = one_digit t h
 
 pub named_by_own_line : (w V k n : ℕ) (i : Item) (rest : List ℕ) → 1 ≤ w → w ≤ most_tracks → V ≤ most_volumes → k < V * w → track_named w (line (k / w + 1) (k % w + 1) n i ++ rest) ≡ k

@@ -6,14 +6,14 @@ use Rattle.tape.specs.declared.item.Kind.TheVariants as told
 use Rattle.tape.specs.Tape.{fits_in, filled}
 use Rattle.tape.specs.Items.{Item, mark, block, proper, kind_of}
 use Rattle.figures.specs.Hex.{hex_digit}
-use Rattle.line_text.specs.Lines.{line, line_head, line_tail, block_head, line_size, size_of_kind, hex_value, hexed, unhexed, is_mark, size_in, kind_in, item_in, size_of_line_in, small, small_item}
+use Rattle.line_text.specs.Lines.{line, place_text, line_head, line_tail, block_head, line_size, size_of_kind, hex_value, hexed, unhexed, is_mark, size_in, kind_in, item_in, size_of_line_in, small, small_item}
 
 pub length_hexed : (bs : List ℕ) → length (hexed bs) ≡ 2 * length bs
 length_hexed [] = refl
 length_hexed (b ∷ bs) = let ih = length_hexed bs in omega arith
 
 pub length_line : (v t n : ℕ) (i : Item) → length (line v t n i) ≡ line_size i
-unfolding line line_head line_tail block_head
+unfolding line line_head place_text line_tail block_head
 length_line v t n mark = refl
 length_line v t n (block bs) = let e = length-append (hexed bs) (10 ∷ []) in let h = length_hexed bs in omega arith
 
@@ -41,18 +41,18 @@ size_back : (bs : List ℕ) → proper (block bs) ≡ true → 100 * (48 + lengt
 size_back bs h = omega (arith, few_bytes bs h)
 
 pub kind_of_own_line : (v t n : ℕ) (i : Item) (rest : List ℕ) → proper i ≡ true → kind_in (line v t n i ++ rest) ≡ kind_of i
-unfolding line line_head line_tail block_head
+unfolding line line_head place_text line_tail block_head
 kind_of_own_line v t n mark rest h = refl
 kind_of_own_line v t n (block bs) rest h = ap told.Block (size_back bs h)
 
 pub item_of_own_line : (v t n : ℕ) (i : Item) (rest : List ℕ) → proper i ≡ true → small_item i ≡ true → item_in (line v t n i ++ rest) ≡ i
-unfolding line line_head line_tail block_head item_in
+unfolding line line_head place_text line_tail block_head item_in
 item_of_own_line v t n mark rest h s = refl
 item_of_own_line v t n (block bs) rest h s =
     ap block (ap (λ k. unhexed k ((hexed bs ++ 10 ∷ []) ++ rest)) (size_back bs h) ∙ ap (unhexed (length bs)) (append_assoc (hexed bs) (10 ∷ []) rest) ∙ unhexed_hexed bs (10 ∷ rest) s)
 
 pub size_of_own_line : (v t n : ℕ) (i : Item) (rest : List ℕ) → proper i ≡ true → size_of_line_in (line v t n i ++ rest) ≡ line_size i
-unfolding line line_head line_tail block_head size_of_line_in
+unfolding line line_head place_text line_tail block_head size_of_line_in
 size_of_own_line v t n mark rest h = refl
 size_of_own_line v t n (block bs) rest h = ap (λ k. 51 + 2 * k) (size_back bs h)
 
@@ -72,7 +72,7 @@ unfolding item_in
 item_in_small bs = small_chosen (is_mark bs) mark (block (unhexed (size_in bs) (drop 50 bs))) refl (unhexed_small (size_in bs) (drop 50 bs))
 
 pub length_line_head : (v t n : ℕ) → length (line_head v t n) ≡ 31
-unfolding line_head
+unfolding line_head place_text
 length_line_head v t n = refl
 
 pub length_block_head : (n : ℕ) → length (block_head n) ≡ 19
@@ -80,7 +80,7 @@ unfolding block_head
 length_block_head n = refl
 
 bytes_of_own_line : (v t n : ℕ) (bs rest : List ℕ) → small bs ≡ true → unhexed (length bs) (drop 50 (line v t n (block bs) ++ rest)) ≡ bs
-unfolding line line_head line_tail block_head
+unfolding line line_head place_text line_tail block_head
 bytes_of_own_line v t n bs rest s = ap (unhexed (length bs)) (append_assoc (hexed bs) (10 ∷ []) rest) ∙ unhexed_hexed bs (10 ∷ rest) s
 
 -- a mark has no bytes to copy

@@ -7,10 +7,13 @@ use Rattle.tape.specs.Items.{Item, mark, block}
 use Rattle.tape.specs.declared.item.Kind.{Kind}
 use Rattle.tape.specs.declared.item.Kind.TheVariants as told
 
+-- the text of a place: `vol=01 track=1 item=00002`, 25 bytes
+unfoldable pub place_text : ℕ → ℕ → ℕ → List ℕ
+place_text v t n = codes "vol=" ++ decimal 2 v ++ codes " track=" ++ decimal 1 t ++ codes " item=" ++ decimal 5 n
+
 -- `vol=01 track=1 item=00002 kind=`, 31 bytes
 unfoldable pub line_head : ℕ → ℕ → ℕ → List ℕ
-line_head v t n =
-    codes "vol=" ++ decimal 2 v ++ codes " track=" ++ decimal 1 t ++ codes " item=" ++ decimal 5 n ++ codes " kind="
+line_head v t n = place_text v t n ++ codes " kind="
 
 -- `mark` and a line feed, 5 bytes
 abbrev pub mark_tail : List ℕ

@@ -1,7 +1,7 @@
 //! The parts of a line, written and read.
 ghost use Rattle.std.specs.Prelude.{◌≡◌, ◌+◌, ◌*◌, ◌<◌, ◌&&◌, ◌++◌, ◌-◌, ◌^◌, min, length, drop, nat_le, slice_index, is_some, MatchOption};
 ghost use Rattle.tape.specs.Items.{item_of, longest_block};
-ghost use Rattle.line_text.specs.Lines.{line_head, block_head, line_size, size_of_kind, digit_value, hex_value, byte_in, kind_in, volume_in, track_in, unhexed};
+ghost use Rattle.line_text.specs.Lines.{place_text, line_head, block_head, line_size, size_of_kind, digit_value, hex_value, byte_in, kind_in, volume_in, track_in, unhexed};
 
 use figures::decimal::decimal;
 use tape::bounds::LONGEST_BLOCK;
@@ -14,15 +14,26 @@ pub const MARK_SIZE: usize = 36;
 /// The bytes of a block's line, but for its hex digits.
 pub const BLOCK_SIZE: usize = 51;
 
+/// The text of a place, `vol=01 track=1 item=00002`.
+#[tactic(auto, unfolding(crate::specs::Lines::place_text))]
+pub fn place_text(place: Place) -> [u8; 25]
+    ensures { result ≡ place_text place.volume place.track place.item }
+{
+    let mut text = *b"vol=00 track=0 item=00000";
+    text[4..6].copy_from_slice(&decimal::<2>(place.volume));
+    text[13..14].copy_from_slice(&decimal::<1>(place.track));
+    text[20..25].copy_from_slice(&decimal::<5>(place.item));
+    text
+}
+
 /// The 31 bytes that begin every line: the item's place, and `kind=`.
-#[tactic(auto, unfolding(crate::specs::Lines::line_head))]
+#[tactic(auto, unfolding(crate::specs::Lines::line_head, crate::specs::Lines::place_text))]
 pub fn head_of(place: Place) -> [u8; 31]
     ensures { result ≡ line_head place.volume place.track place.item }
 {
-    let mut head = *b"vol=00 track=0 item=00000 kind=";
-    head[4..6].copy_from_slice(&decimal::<2>(place.volume));
-    head[13..14].copy_from_slice(&decimal::<1>(place.track));
-    head[20..25].copy_from_slice(&decimal::<5>(place.item));
+    let mut head = [0; 31];
+    head[..25].copy_from_slice(&place_text(place));
+    head[25..].copy_from_slice(b" kind=");
     head
 }
 
@@ -151,5 +162,16 @@ mod tests {
         ] {
             assert_eq!(rt; size_of_line(kind), size, "size of the line of {kind:?}");
         }
+    }
+
+    #[test]
+    fn begins_with_the_place(rt: HostRuntime) {
+        let place = Place {
+            volume: 1,
+            track: 1,
+            item: 2,
+        };
+        assert_eq!(rt; place_text(place), *b"vol=01 track=1 item=00002");
+        assert_eq!(rt; head_of(place), *b"vol=01 track=1 item=00002 kind=");
     }
 }

@@ -7,7 +7,7 @@ use tape::bounds::WRITES_AFTER;
 
 /// A track: where its first line begins, how many items it has and, once its marker is met, the
 /// writes taken since. Of a blank track the beginning says nothing.
-#[derive(Clone, Copy)]
+#[derive(Clone, Copy, PartialEq, Eq, Debug)]
 pub struct Span {
     pub start: usize,
     pub count: usize,
@@ -16,6 +16,7 @@ pub struct Span {
 
 impl Span {
     /// A track without an item.
+    // By its own word, and no Default.
     pub fn blank() -> Span
         ensures { result ≡ blank_span }
     {

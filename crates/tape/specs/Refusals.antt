@@ -1,5 +1,6 @@
 -- What a refusal tells: its number, its layer and its place. Assumes nothing.
-use Rattle.std.specs.Prelude.{ℕ, List, codes}
+use Rattle.std.specs.Prelude.{ℕ, List, ◌++◌, codes}
+use Rattle.std.specs.Fmt.{decimal}
 use Rattle.tape.specs.declared.place.Place.{Place}
 use Rattle.tape.specs.declared.refusal.Reason.{Reason}
 use Rattle.tape.specs.declared.refusal.Reason.TheVariants.{BlockSize, Unlawful, ShortBuffer, Missing, MarkOutOfPlace, BlockOutOfPlace, BadLabel, LabelDisagrees, CountDisagrees, DoesNotFit, EmptyFile, NoRoomForFile, SectionFull, NoVolume, Ended, TransportFailed, VolumeAwaited, CatalogueFull}
@@ -75,9 +76,15 @@ layer_name Transport = codes "transport"
 layer_name Label = codes "label"
 layer_name Structure = codes "structure"
 
+-- the words of its reason, and its place
+abbrev pub refusal_words : Refusal → List ℕ
+refusal_words r =
+    reason_words r.reason
+    ++ (codes ", at volume " ++ (decimal r.place.volume ++ (codes ", track " ++ (decimal r.place.track ++ (codes ", item " ++ decimal r.place.item)))))
+
 -- why a transport could not be made
 abbrev pub setup_words : SetupError → List ℕ
-setup_words (Refused r) = codes "a setting is out of its range"
+setup_words (Refused r) = refusal_words r
 setup_words NoMemory = codes "no memory"
 
 -- the place where there is no transport

@@ -1,6 +1,6 @@
 //! Refusals: why, where, and by which layer.
 ghost use Rattle.std.specs.Prelude.{◌≡◌, Some};
-ghost use Rattle.tape.specs.Refusals.{reason_number, reason_layer, reason_words, layer_name, setup_words, nowhere};
+ghost use Rattle.tape.specs.Refusals.{reason_number, reason_layer, reason_words, layer_name, refusal_words, setup_words, nowhere};
 ghost use Rattle.tape.specs.declared.refusal.SetupError.TheVariants.{NoMemory};
 
 use crate::place::Place;
@@ -85,8 +85,24 @@ pub struct Refusal {
     pub place: Place,
 }
 
-/// Why a transport could not be made: a setting out of its range, or want of memory.
-#[derive(Debug, Drop)]
+impl fmt::Display for Refusal {
+    ghost output = { λ refusal. Some (refusal_words refusal) };
+
+    fn fmt<W: fmt::Write>(&self, f: &mut fmt::Formatter<W>) -> fmt::Result {
+        let Place {
+            volume,
+            track,
+            item,
+        } = self.place;
+        f.write_str(self.reason.words())?;
+        write!(f, ", at volume {volume}, track {track}, item {item}")
+    }
+}
+
+impl Error for Refusal {}
+
+/// Why a transport could not be made: a refusal, or want of memory.
+#[derive(Clone, Copy, PartialEq, Eq, Debug)]
 pub enum SetupError {
     Refused(Refusal),
     NoMemory,
@@ -104,10 +120,10 @@ impl fmt::Display for SetupError {
     ghost output = { λ e. Some (setup_words e) };
 
     fn fmt<W: fmt::Write>(&self, f: &mut fmt::Formatter<W>) -> fmt::Result {
-        f.write_str(match self {
-            SetupError::Refused(_) => "a setting is out of its range",
-            SetupError::NoMemory => "no memory",
-        })
+        match self {
+            SetupError::Refused(refusal) => write!(f, "{refusal}"),
+            SetupError::NoMemory => f.write_str("no memory"),
+        }
     }
 }
 
@@ -115,7 +131,8 @@ impl Error for SetupError {}
 
 impl Reason {
     /// The number by which users know the reason.
-    // A method and no From: `u8::from(reason)` would not say which number.
+    // A method and no From: `u8::from(reason)` would not say which number. Arms and no discriminants:
+    // that two reasons have one number is for the proof to refuse, and no compiler would build it.
     pub fn number(self) -> u8
         ensures { result ≡ reason_number self }
     {
@@ -218,6 +235,7 @@ mod tests {
     use super::*;
     use std::test::Fail;
 
+    // numbers and layers once more, apart from the code
     const REASONS: [(Reason, u8, Layer); 18] = [
         (Reason::BlockSize, 1, Layer::Structure),
         (Reason::Unlawful, 2, Layer::Label),
@@ -249,6 +267,7 @@ mod tests {
 
     #[test]
     fn nowhere_is_all_zeros(rt: HostRuntime) {
+        // not field by field, so that the zeros stand in one place, where an edit turns one
         let [volume, track, item] = [0; 3];
         let place = Place {
             volume,
@@ -274,9 +293,19 @@ mod tests {
     }
 
     #[test]
-    fn setup_errors_have_words(rt: HostRuntime) -> Result<(), Fail> {
-        let refused = SetupError::Refused(Reason::Unlawful.nowhere()).to_string(rt.alloc())?;
-        assert_eq!(rt; refused.as_str(), "a setting is out of its range");
+    fn refusals_and_setup_errors_have_words(rt: HostRuntime) -> Result<(), Fail> {
+        let words = "a tape mark stands where a block must be, at volume 1, track 2, item 37";
+        let place = Place {
+            volume: 1,
+            track: 2,
+            item: 37,
+        };
+        let reason = Reason::MarkOutOfPlace;
+        let refusal = Refusal { reason, place };
+        let told = refusal.to_string(rt.alloc())?;
+        assert_eq!(rt; told.as_str(), words);
+        let refused = SetupError::Refused(refusal).to_string(rt.alloc())?;
+        assert_eq!(rt; refused.as_str(), words);
         let memory = SetupError::from(AllocError).to_string(rt.alloc())?;
         assert_eq!(rt; memory.as_str(), "no memory");
         Ok(())

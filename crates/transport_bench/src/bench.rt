@@ -18,6 +18,7 @@ pub(crate) struct Bench<'a, R, T> {
 }
 
 impl<R: Print + AllocGlobal, T: Transport> Bench<'_, R, T> {
+    // A loop that counts: each turn writes, and the last answer is told too.
     fn marks(&mut self, count: &str) -> io::Result<()> {
         let mut taken = 0usize;
         let mut last = Ok(false);

@@ -34,7 +34,8 @@ impl fmt::Display for Hex<'_> {
     }
 }
 
-/// A place as the lines of a recorded text have it.
+/// A place as the lines of a recorded text have it. Each program prints it in its own form, which
+/// its stored output has.
 #[derive(Clone, Copy)]
 pub(crate) struct At(pub(crate) Place);
 
@@ -49,7 +50,8 @@ impl fmt::Display for At {
     }
 }
 
-/// Why a call was refused, the place that the refusal speaks of, and by which layer.
+/// Why a call was refused, the place that the refusal speaks of, and by which layer. Each program
+/// prints it in its own form, which its stored output has.
 #[derive(Clone, Copy)]
 pub(crate) struct Refused(pub(crate) Refusal);
 

@@ -59,7 +59,7 @@ impl LineTransport {
         0 < self.span(self.head.at).count && !self.is_on_last_track()
     }
 
-    // The index of the next volume's first track.
+    // The index of the next volume's first track. No method of the settings, which have no invariant.
     pub(super) fn next_volume(&self) -> usize
         ensures { result ≡ next_volume (line_tape self.now) }
     {

@@ -25,6 +25,7 @@ impl LineTransport {
     pub(super) fn next_kind(&self) -> Option<Kind>
         ensures { result ≡ option_map kind_of (next_item (line_tape self.now)) }
     {
+        // no `then`: its closure would owe that an item comes next
         if self.is_past_track() {
             return None;
         }

@@ -33,7 +33,7 @@ impl LineTransport {
         })
     }
 
-    // Blank again, as it was made.
+    // Blank again, as it was made: as in `new`, but the memory stays.
     pub(super) fn erase(&mut self)
         ensures becomes { Becomes self.old self.new (fresh self.old.settings.tracks self.old.settings.volumes) }
         ensures text { self.new.text.items ≡ [] }
@@ -63,6 +63,7 @@ impl LineTransport {
 
     /// The head goes to the first item of a track, counted from 0 over all volumes: a way to look
     /// behind blank tracks, which the interface has not. Tells whether the track is there.
+    // A bool: it is what `following` answers too.
     pub fn seek_track(&mut self, k: usize) -> bool
         ensures found { Exactly (sought (line_tape self.old) k) (result, line_tape self.new) }
         ensures settings { settings_of self.new ≡ settings_of self.old }

@@ -62,7 +62,8 @@ impl LineTransport {
         }
     }
 
-    // A recorded text in place of what was there, with the head behind its last line.
+    // A recorded text in place of what was there, with the head behind its last line. An Option: whatever
+    // is wrong, `take` has one reason for it.
     fn take_lines(&mut self, source: &[u8]) -> Option<()>
         ensures tape { MatchOption result (taken (settings_of self.old) source.now ≡ None) (λ _. taken (settings_of self.old) source.now ≡ rewound (Some (line_tape self.new))) }
         ensures text { MatchOption result (Unit {0}) (λ _. text_of (line_tape self.new) ≡ source.now) }
