@@ -1,3 +1,4 @@
+pub mod Amounts
 pub mod Gave
 pub mod Summed
 pub mod Works

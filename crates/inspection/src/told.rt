@@ -31,6 +31,8 @@ pub(crate) struct Named<'a>(pub(crate) &'a [u8], pub(crate) &'a [u8]);
 impl Told for Named<'_> {
     ghost text = { λ s. named s.0.now s.1.now };
 
+    // in line, where the lengths are known: a label's line has nine of these
+    #[inline]
     #[tactic(auto, unfolding(crate::specs::Pieces::named))]
     fn tell(&self, out: &mut Vec<u8>) -> Result<(), AllocError> {
         out.extend_from_slice(self.0)?;

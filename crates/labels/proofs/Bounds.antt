@@ -8,12 +8,12 @@ pub part_length : (bs : List ℕ) (n : ℕ) (s : CharSet) → is_part bs n s ≡
 part_length bs n s e = eqb-true (length bs) n (and_parts _ _ e).0
 
 -- a digit's value
-digit_small : (b : ℕ) → digit b ≤ 9
+pub digit_small : (b : ℕ) → digit b ≤ 9
 digit_small b =
     cond_both (n_character b) (b - 48) 0 (λ d. d ≤ 9) (λ e. omega (arith, leb-true b 57 (and_parts (leb 48 b) (leb b 57) e).1)) (λ e. omega arith)
 
 -- one more digit keeps a number below the next power of ten
-digit_more : (n i b : ℕ) → n < 10 ^ i → n * 10 + digit b < 10 ^ (i + 1)
+pub digit_more : (n i b : ℕ) → n < 10 ^ i → n * 10 + digit b < 10 ^ (i + 1)
 digit_more n i b h = let d = digit_small b in rw (add-one, pow-suc) (omega arith)
 
 -- characters write a number below the power of ten

@@ -57,18 +57,18 @@ parts_given c = record {
 }
 
 -- what is known of each thing that a label is made of
-record Lawful (c : Contents) : Type 0 where
-  volume : is_part c.volume 4 Text ≡ true
-  file : is_part c.fields.file 8 Text ≡ true
-  created : lawful_date c.fields.created ≡ true
-  retention : is_part c.fields.retention 3 Digits ≡ true
-  code : n_character c.fields.code ≡ true
-  user : is_part c.fields.user 4 Text ≡ true
-  section : number (decimal 2 c.section) ≡ c.section
-  count : number (decimal 4 c.count) ≡ c.count
-  kind : count_fits c.kind c.count ≡ true
+pub record Lawful (c : Contents) : Type 0 where
+  pub volume : is_part c.volume 4 Text ≡ true
+  pub file : is_part c.fields.file 8 Text ≡ true
+  pub created : lawful_date c.fields.created ≡ true
+  pub retention : is_part c.fields.retention 3 Digits ≡ true
+  pub code : n_character c.fields.code ≡ true
+  pub user : is_part c.fields.user 4 Text ≡ true
+  pub section : number (decimal 2 c.section) ≡ c.section
+  pub count : number (decimal 4 c.count) ≡ c.count
+  pub kind : count_fits c.kind c.count ≡ true
 
-lawful : (c : Contents) → lawful_contents c ≡ true → Lawful c
+pub lawful : (c : Contents) → lawful_contents c ≡ true → Lawful c
 lawful c e =
     let p₄ = and_parts _ (count_fits c.kind c.count) e in
     let p₃ = and_parts _ (leb c.count 9999) p₄.0 in
@@ -114,7 +114,7 @@ module _ (c : Contents) (l : Lawful c) where
   count_lawful : count_fits c.kind (number (decimal 4 c.count)) ≡ true
   count_lawful = ap (count_fits c.kind) l.count ∙ l.kind
 
-  made_read : reading (label_bytes c) ≡ Ok (c.kind, parts_given c)
+  pub made_read : reading (label_bytes c) ≡ Ok (c.kind, parts_given c)
   made_read =
       reading_found (kind_character c.kind) _ c.kind (parts_given c) (kind_back c.kind) parts_stand
       ∙ cond-true (lawful_parts (parts_given c) && count_fits c.kind (number (decimal 4 c.count))) _ _ (and_from _ _ parts_lawful count_lawful)

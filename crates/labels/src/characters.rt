@@ -5,7 +5,7 @@ ghost use Rattle.labels.specs.Characters.{a_character, n_character, in_set, digi
 
 /// The two sets of characters that fields are made of: a characters, and n characters.
 #[derive(Clone, Copy)]
-pub(crate) enum CharSet {
+pub enum CharSet {
     Text,
     Digits,
 }

@@ -1,7 +1,7 @@
 //! The 32-byte labels of the Compact System: made by value, and read as borrowed parts.
 #![tactic(auto)]
 
-mod characters;
+pub mod characters;
 pub mod contents;
 pub mod fields;
 pub mod kind;

@@ -14,5 +14,5 @@ pub struct Parts<'a> {
     pub user: &'a [u8; 4],
 }
 
-mod found;
-mod told;
+pub mod found;
+pub mod told;

@@ -13,7 +13,7 @@ use Rattle.line.specs.Meaning.{settings_of}
 use Rattle.line.specs.Taken.{grown_tape, line_on}
 use Rattle.line.specs.Steps.{Took}
 
-same_answer : (a b : Bool) → (a ≡ true → b ≡ true) → (b ≡ true → a ≡ true) → a ≡ b
+pub same_answer : (a b : Bool) → (a ≡ true → b ≡ true) → (b ≡ true → a ≡ true) → a ≡ b
 same_answer true true f g = refl
 same_answer true false f g = sym (f refl)
 same_answer false true f g = g refl

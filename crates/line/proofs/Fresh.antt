@@ -33,7 +33,7 @@ module _ (w V marker : ℕ) (text : List ℕ) (spans : List Span) (blank : text 
   none : (k : ℕ) → (get_or spans k blank_span).count ≡ 0
   none k = ap (λ (s : Span). s.count) (each k)
 
-  long : length spans ≡ w
+  pub long : length spans ≡ w
   long = ap length volume ∙ length-replicate w blank_span
 
   one_volume : length spans / w ≡ 1

@@ -1,5 +1,5 @@
 -- How many tracks there are once volumes were added until a track is there. Assumes nothing.
-use Rattle.std.proofs.Common.{◌≡◌, ℕ, ◌+◌, ◌-◌, ◌*◌, ◌/◌, ◌%◌, ◌<◌, ◌≤◌, ap, ◌∙◌, ⊎_elim, mul-le-mul_right, div-lt_iff_lt-mul, add-mul, one-mul, div-add-mod', mul-div_cancel, arith}
+use Rattle.std.proofs.Common.{◌≡◌, ℕ, ◌+◌, ◌-◌, ◌*◌, ◌/◌, ◌%◌, ◌<◌, ◌≤◌, sym, ap, ◌∙◌, ⊎_elim, mul-le-mul_right, div-lt_iff_lt-mul, add-mul, one-mul, div-add-mod', mul-div_cancel, arith}
 use native.Mathlib.Nat.{mul-mod_left, lt-div-mul-add, add-mod_right, add-div_right}
 use Rattle.std.proofs.str.Laws.{order}
 
@@ -39,6 +39,12 @@ grown_count w L V k there N some whole few inside is_there is_N =
 -- the tracks of whole volumes, at most V
 pub all_tracks : (w V N : ℕ) → N % w ≡ 0 → N / w ≤ V → N ≤ V * w
 all_tracks w V N whole few = omega (arith, div-add-mod' N w, whole, mul-le-mul_right {m = N / w} {n = V} w few)
+
+-- what is mounted and what may still be are all volumes
+pub left_over : (w V N : ℕ) → N % w ≡ 0 → N / w ≤ V → N + (V - N / w) * w ≡ V * w
+left_over w V N whole few =
+    let e : N / w + (V - N / w) ≡ V = omega arith in
+    omega (arith, sym (add-mul (N / w) (V - N / w) w) ∙ ap (λ v. v * w) e, div-add-mod' N w, whole)
 
 -- where a volume is left, it is one more, and there is room for its tracks
 pub record OneMore (w V N M : ℕ) : Type 0 where

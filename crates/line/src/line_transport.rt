@@ -6,7 +6,7 @@ ghost use Rattle.line.specs.Settings.{Lawful};
 use crate::settings::Settings;
 use line_text::span::Span;
 
-mod interface;
+pub mod interface;
 mod laying;
 mod moving;
 mod reading;

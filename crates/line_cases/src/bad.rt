@@ -1,5 +1,5 @@
 //! Texts that must be refused, each made from a good one by one change, beside a few that must not.
-use crate::common::Refused;
+use crate::common::{Refused, transport};
 use case_words::answer::yes;
 use case_words::blank::is_blank;
 use case_words::settings::USUAL;
@@ -168,7 +168,7 @@ fn offer(
     chosen: Settings,
     text: &str,
 ) -> anyhow::Result<()> {
-    let mut line = LineTransport::new(alloc, chosen)?;
+    let mut line = transport(alloc, chosen)?;
     let answer = offered(&mut line, text);
     let blank = yes(is_blank(&line));
     match answer {

@@ -1,6 +1,9 @@
 //! What the cases share: what is printed, and steps that several take.
+use anyhow::anyhow;
 use case_words::answer::{Answer, yes};
 use line::line_transport::LineTransport;
+use line::settings::Settings;
+use std::alloc::Global;
 use std::fmt;
 use tape::bounds::{LONGEST_BLOCK, MOST_ITEMS};
 use tape::item::Kind;
@@ -35,6 +38,11 @@ impl fmt::Display for Refused {
             At(place)
         )
     }
+}
+
+/// A transport to try. Where there is none, the words are this program's own.
+pub(crate) fn transport(alloc: Global, settings: Settings) -> anyhow::Result<LineTransport> {
+    LineTransport::new(alloc, settings).map_err(|_| anyhow!("no transport"))
 }
 
 /// Whether a text was taken, and whether the transport then hands out the same.

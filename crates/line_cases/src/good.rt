@@ -1,6 +1,6 @@
 //! Texts that must be taken: each is handed out again byte for byte, its tracks with items count as
 //! marked with their eight writes taken, and a blank track is as new.
-use crate::common::{pass_all, pass_track, take};
+use crate::common::{pass_all, pass_track, take, transport};
 use case_words::answer::{Answer, written, yes};
 use case_words::settings::USUAL;
 use line::line_transport::LineTransport;
@@ -55,7 +55,7 @@ fn good(
     text: &[u8],
     last: usize,
 ) -> anyhow::Result<()> {
-    let mut line = LineTransport::new(alloc, THREE_VOLUMES)?;
+    let mut line = transport(alloc, THREE_VOLUMES)?;
     print!(rt; "{name}: {} tracks", take(&mut line, text))?;
     show_tracks(rt, &mut line)?;
     let on_last = one_more(&mut line, last);
@@ -67,7 +67,7 @@ fn good(
 
 // A text in place of another.
 fn again(rt: &impl Print, alloc: Global) -> anyhow::Result<()> {
-    let mut line = LineTransport::new(alloc, THREE_VOLUMES)?;
+    let mut line = transport(alloc, THREE_VOLUMES)?;
     let first = yes(line.take(BLANK_VOLUME).is_ok());
     let second = yes(line.take(SECOND_TRACK).is_ok());
     let same = yes(line.text() == SECOND_TRACK);

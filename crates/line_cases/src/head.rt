@@ -1,5 +1,5 @@
 //! The head on its way over tracks and volumes.
-use crate::common::{At, passed, seen};
+use crate::common::{At, passed, seen, transport};
 use case_words::answer::{Answer, found, moved, written, yes};
 use case_words::settings::USUAL;
 use line::line_transport::LineTransport;
@@ -112,11 +112,11 @@ impl<R: Print> Moves<'_, R> {
 }
 
 pub(crate) fn run(rt: &impl Print, alloc: Global) -> anyhow::Result<()> {
-    let line = LineTransport::new(alloc, USUAL)?;
+    let line = transport(alloc, USUAL)?;
     let mut moves = Moves { rt, line };
     moves.tracks()?;
     moves.volumes()?;
-    moves.line = LineTransport::new(alloc, Settings { tracks: 1, ..USUAL })?;
+    moves.line = transport(alloc, Settings { tracks: 1, ..USUAL })?;
     moves.mounts()?;
     Ok(())
 }

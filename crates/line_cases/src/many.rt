@@ -1,10 +1,10 @@
 //! Many items and many volumes, so that every digit of a line's numbers is used.
-use crate::common::{count_while, take};
+use crate::common::{count_while, take, transport};
 use case_words::answer::moved;
 use case_words::settings::USUAL;
 use line::line_transport::LineTransport;
 use line::settings::Settings;
-use line_text::lines::{block_head_of, head_of};
+use line_text::lines::{MARK_SIZE, block_head_of, head_of};
 use std::alloc::Global;
 use std::str::from_utf8;
 use tape::item::ItemRef;
@@ -25,9 +25,11 @@ const VOLUMES: Settings = Settings {
     ..USUAL
 };
 
+// The last line, which is a mark's: its bytes as they are, so that its line feed is seen too.
 fn show_last(rt: &impl Print, line: &LineTransport) -> anyhow::Result<()> {
-    let last = from_utf8(line.text())?.lines().last().unwrap_or("");
-    println!(rt; "{last}")?;
+    let text = line.text();
+    let last = &text[text.len().saturating_sub(MARK_SIZE)..];
+    print!(rt; "{}", from_utf8(last)?)?;
     Ok(())
 }
 
@@ -37,9 +39,9 @@ fn marks(line: &mut LineTransport, n: usize) -> usize {
 }
 
 fn items(rt: &impl Print, alloc: Global) -> anyhow::Result<()> {
-    let mut from = LineTransport::new(alloc, ITEMS)?;
+    let mut from = transport(alloc, ITEMS)?;
     let written = marks(&mut from, 123);
-    let mut to = LineTransport::new(alloc, ITEMS)?;
+    let mut to = transport(alloc, ITEMS)?;
     let taking = take(&mut to, from.text());
     println!(rt; "many items: {written} {taking}")?;
     show_last(rt, &from)
@@ -47,7 +49,7 @@ fn items(rt: &impl Print, alloc: Global) -> anyhow::Result<()> {
 
 // A mark on each volume.
 fn volumes(rt: &impl Print, alloc: Global) -> anyhow::Result<()> {
-    let mut line = LineTransport::new(alloc, VOLUMES)?;
+    let mut line = transport(alloc, VOLUMES)?;
     let mut written = marks(&mut line, 1);
     for _ in 0..48 {
         let _ = line.mount();

@@ -1,4 +1,5 @@
 //! The marker: which write meets it, and what a track takes behind it.
+use crate::common::transport;
 use case_words::answer::{moved, written, yes};
 use case_words::settings::USUAL;
 use line::line_transport::LineTransport;
@@ -19,7 +20,7 @@ fn marks(rt: &impl Print, line: &mut LineTransport, n: usize) -> io::Result<()> 
 
 // The answer of each write, and whether the marker is met behind it.
 fn met(rt: &impl Print, alloc: Global, marker: usize, n: usize) -> anyhow::Result<()> {
-    let mut line = LineTransport::new(alloc, Settings { marker, ..USUAL })?;
+    let mut line = transport(alloc, Settings { marker, ..USUAL })?;
     print!(rt; "marker {marker}:")?;
     marks(rt, &mut line, n)?;
     let bytes = line.text().len();
@@ -47,7 +48,7 @@ fn blocks(rt: &impl Print, line: &mut LineTransport) -> io::Result<()> {
 }
 
 fn sizes(rt: &impl Print, alloc: Global) -> anyhow::Result<()> {
-    let mut line = LineTransport::new(
+    let mut line = transport(
         alloc,
         Settings {
             marker: 10,
@@ -60,7 +61,7 @@ fn sizes(rt: &impl Print, alloc: Global) -> anyhow::Result<()> {
 }
 
 fn sizes_behind(rt: &impl Print, alloc: Global) -> anyhow::Result<()> {
-    let mut line = LineTransport::new(alloc, Settings { marker: 3, ..USUAL })?;
+    let mut line = transport(alloc, Settings { marker: 3, ..USUAL })?;
     print!(rt; "behind the marker:")?;
     marks(rt, &mut line, 3)?;
     blocks(rt, &mut line)?;
@@ -75,7 +76,7 @@ fn long_at_marker(rt: &impl Print, alloc: Global) -> anyhow::Result<()> {
         marker: 3,
         ..USUAL
     };
-    let mut line = LineTransport::new(alloc, one)?;
+    let mut line = transport(alloc, one)?;
     print!(rt; "a long block at the marker:")?;
     marks(rt, &mut line, 2)?;
     block(rt, &mut line, &[66u8; 256])?;

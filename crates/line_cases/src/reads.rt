@@ -1,5 +1,5 @@
 //! Reads into buffers that are too short, just long enough, and longer.
-use crate::common::{passed, seen};
+use crate::common::{passed, seen, transport};
 use case_words::answer::{written, yes};
 use case_words::settings::USUAL;
 use line::line_transport::LineTransport;
@@ -46,7 +46,7 @@ fn recorded(rt: &impl Print, line: &mut LineTransport) -> io::Result<()> {
 }
 
 pub(crate) fn run(rt: &impl Print, alloc: Global) -> anyhow::Result<()> {
-    let mut line = LineTransport::new(alloc, USUAL)?;
+    let mut line = transport(alloc, USUAL)?;
     recorded(rt, &mut line)?;
     read(rt, &mut line, &mut [1, 2, 3], &[1, 2, 3])?;
     read(rt, &mut line, &mut [9; 6], b"WXYZ\x09\x09")?;

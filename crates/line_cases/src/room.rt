@@ -1,6 +1,6 @@
 //! Room: a write fails exactly where its line does not fit, and from then on all but the questions
 //! is turned down.
-use crate::common::{At, passed, seen};
+use crate::common::{At, passed, seen, transport};
 use case_words::answer::{found, moved, written, yes};
 use case_words::blank::FRONT;
 use case_words::settings::USUAL;
@@ -36,7 +36,7 @@ fn questions(rt: &impl Print, line: &LineTransport) -> io::Result<()> {
 
 // Marks until one fails, then each function, and what the tape still has.
 fn filled(rt: &impl Print, alloc: Global, room: usize) -> anyhow::Result<()> {
-    let mut line = LineTransport::new(alloc, Settings { room, ..USUAL })?;
+    let mut line = transport(alloc, Settings { room, ..USUAL })?;
     print!(rt; "room {room}, three marks:")?;
     for _ in 0..3 {
         print!(rt; " {}", written(line.write(ItemRef::Mark)))?;
@@ -50,7 +50,7 @@ fn filled(rt: &impl Print, alloc: Global, room: usize) -> anyhow::Result<()> {
 }
 
 fn block(rt: &impl Print, alloc: Global, room: usize, bytes: &[u8]) -> anyhow::Result<()> {
-    let mut line = LineTransport::new(alloc, Settings { room, ..USUAL })?;
+    let mut line = transport(alloc, Settings { room, ..USUAL })?;
     let size = bytes.len();
     let word = written(line.write(ItemRef::Block(bytes)));
     let failed = yes(line.failed());
@@ -61,7 +61,7 @@ fn block(rt: &impl Print, alloc: Global, room: usize, bytes: &[u8]) -> anyhow::R
 
 // A write that cannot apply is turned down where its line would not fit either.
 fn down_first(rt: &impl Print, alloc: Global) -> anyhow::Result<()> {
-    let mut line = LineTransport::new(alloc, Settings { room: 10, ..USUAL })?;
+    let mut line = transport(alloc, Settings { room: 10, ..USUAL })?;
     let empty = written(line.write(ItemRef::Block(b"")));
     let failed = yes(line.failed());
     let mark = written(line.write(ItemRef::Mark));
@@ -71,7 +71,7 @@ fn down_first(rt: &impl Print, alloc: Global) -> anyhow::Result<()> {
 
 // A text that is taken ends the failure.
 fn taken_after(rt: &impl Print, alloc: Global) -> anyhow::Result<()> {
-    let mut line = LineTransport::new(alloc, Settings { room: 72, ..USUAL })?;
+    let mut line = transport(alloc, Settings { room: 72, ..USUAL })?;
     for _ in 0..3 {
         let _ = line.write(ItemRef::Mark);
     }

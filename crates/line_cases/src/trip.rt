@@ -1,5 +1,5 @@
 //! A round trip: what is written on two tracks of two volumes is handed out as text, and taken again.
-use crate::common::{pass_track, take};
+use crate::common::{pass_track, take, transport};
 use case_words::answer::yes;
 use case_words::settings::USUAL;
 use line::line_transport::LineTransport;
@@ -49,9 +49,9 @@ fn tracks(rt: &impl Print, line: &mut LineTransport) -> io::Result<()> {
 }
 
 pub(crate) fn run(rt: &impl Print, alloc: Global) -> anyhow::Result<()> {
-    let mut from = LineTransport::new(alloc, USUAL)?;
+    let mut from = transport(alloc, USUAL)?;
     write(rt, &mut from)?;
-    let mut to = LineTransport::new(alloc, USUAL)?;
+    let mut to = transport(alloc, USUAL)?;
     println!(rt; "taken again: {}", take(&mut to, from.text()))?;
     tracks(rt, &mut to)?;
     Ok(())

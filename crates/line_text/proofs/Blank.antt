@@ -18,16 +18,16 @@ pub blank_from : (xs : List Track) → ((k : ℕ) → k < length xs → no_items
 blank_from [] h = refl
 blank_from (x ∷ xs) h = grind (arith, h 0, blank_from xs (λ k l. h (suc k) (omega arith)))
 
-not_blank : (xs : List Track) (k : ℕ) → k < length xs → no_items (get_or xs k blank_track).items ≡ false → all_blank xs ≡ false
+pub not_blank : (xs : List Track) (k : ℕ) → k < length xs → no_items (get_or xs k blank_track).items ≡ false → all_blank xs ≡ false
 not_blank [] k h e = grind arith
 not_blank (x ∷ xs) zero h e = grind arith
 not_blank (x ∷ xs) (suc k) h e = grind (arith, not_blank xs k)
 
-none_counted : (n : ℕ) (bs : List ℕ) → n ≡ 0 → no_items (items_in n bs) ≡ true
+pub none_counted : (n : ℕ) (bs : List ℕ) → n ≡ 0 → no_items (items_in n bs) ≡ true
 unfolding items_in
 none_counted n bs e = grind arith
 
-some_counted : (n : ℕ) (bs : List ℕ) → 0 < n → no_items (items_in n bs) ≡ false
+pub some_counted : (n : ℕ) (bs : List ℕ) → 0 < n → no_items (items_in n bs) ≡ false
 unfolding items_in
 some_counted n bs e = grind arith
 
@@ -43,7 +43,7 @@ module _ (text : List ℕ) (spans : List Span) where
       let bare = none (n + k) inside (omega arith) in
       grind (arith, track_there, none_counted))
 
-  some_past : (n k : ℕ) → n ≤ k → k < length spans → 0 < (get_or spans k blank_span).count → all_blank (drop n (image_of text spans)) ≡ false
+  pub some_past : (n k : ℕ) → n ≤ k → k < length spans → 0 < (get_or spans k blank_span).count → all_blank (drop n (image_of text spans)) ≡ false
   some_past n k le h some =
       let back : n + (k - n) ≡ k = omega arith in
       not_blank (drop n (image_of text spans)) (k - n) (omega (arith, length-drop n (image_of text spans), length-map spans (track_of text)))

@@ -33,7 +33,7 @@ text_of_blanks w k [] (suc n) = text_of_blanks w (suc k) [] n
 text_of_blanks w k (x ∷ xs) n = grind (arith, text_of_blanks w (suc k) xs n)
 
 -- a fact of every span that is there, and of a blank one, is a fact of every number
-of_any : (P : Span → Type 0) (spans : List Span) → P blank_span → ((k : ℕ) → k < length spans → P (get_or spans k blank_span)) → (k : ℕ) → P (get_or spans k blank_span)
+pub of_any : (P : Span → Type 0) (spans : List Span) → P blank_span → ((k : ℕ) → k < length spans → P (get_or spans k blank_span)) → (k : ℕ) → P (get_or spans k blank_span)
 of_any P spans blank there k = grind (arith, get_or_past)
 
 module _ (w : ℕ) (text : List ℕ) (spans : List Span) (n : ℕ) where

@@ -7,7 +7,7 @@ use Rattle.std.proofs.lemmas.Bool.{and_from}
 use Rattle.figures.specs.Hex.{hex_pair}
 use Rattle.line_text.specs.Lines.{hex_value, hexed, unhexed, byte_in, small}
 
-unhexed_more : (n : ℕ) (bs : List ℕ) → unhexed (suc n) bs ≡ unhexed n bs ++ unhexed 1 (drop (2 * n) bs)
+pub unhexed_more : (n : ℕ) (bs : List ℕ) → unhexed (suc n) bs ≡ unhexed n bs ++ unhexed 1 (drop (2 * n) bs)
 unhexed_more zero bs = refl
 unhexed_more (suc n) bs =
     let there : drop (2 * n) (drop 2 bs) ≡ drop (2 * suc n) bs = rw drop-drop (ap (λ k. drop k bs) (omega arith)) in

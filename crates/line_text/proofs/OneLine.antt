@@ -27,7 +27,7 @@ byte_back b h =
     let low = hex_back (b % 16) (omega arith) in
     omega arith
 
-unhexed_hexed : (bs rest : List ℕ) → small bs ≡ true → unhexed (length bs) (hexed bs ++ rest) ≡ bs
+pub unhexed_hexed : (bs rest : List ℕ) → small bs ≡ true → unhexed (length bs) (hexed bs ++ rest) ≡ bs
 unhexed_hexed [] rest h = refl
 unhexed_hexed (b ∷ bs) rest h =
     let parts = and_parts (ltb b 256) (small bs) h in
@@ -79,7 +79,7 @@ pub length_block_head : (n : ℕ) → length (block_head n) ≡ 19
 unfolding block_head
 length_block_head n = refl
 
-bytes_of_own_line : (v t n : ℕ) (bs rest : List ℕ) → small bs ≡ true → unhexed (length bs) (drop 50 (line v t n (block bs) ++ rest)) ≡ bs
+pub bytes_of_own_line : (v t n : ℕ) (bs rest : List ℕ) → small bs ≡ true → unhexed (length bs) (drop 50 (line v t n (block bs) ++ rest)) ≡ bs
 unfolding line line_head place_text line_tail block_head
 bytes_of_own_line v t n bs rest s = ap (unhexed (length bs)) (append_assoc (hexed bs) (10 ∷ []) rest) ∙ unhexed_hexed bs (10 ∷ rest) s
 

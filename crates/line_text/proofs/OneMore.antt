@@ -22,7 +22,7 @@ none_in n a b e = grind arith
 
 module _ (w : ℕ) (text : List ℕ) (spans : List Span) (laid : Laid w text spans) where
   -- what is added behind leaves every track's items
-  same_items : (more : List ℕ) (k : ℕ) → k < length spans → span_items (text ++ more) (get_or spans k blank_span) ≡ span_items text (get_or spans k blank_span)
+  pub same_items : (more : List ℕ) (k : ℕ) → k < length spans → span_items (text ++ more) (get_or spans k blank_span) ≡ span_items text (get_or spans k blank_span)
   same_items more k h = ⊎_elim kept (λ none. grind (arith, none_in)) (order 0 (get_or spans k blank_span).count)
     where
       kept : 0 < (get_or spans k blank_span).count → span_items (text ++ more) (get_or spans k blank_span) ≡ span_items text (get_or spans k blank_span)
@@ -31,7 +31,7 @@ module _ (w : ℕ) (text : List ℕ) (spans : List Span) (laid : Laid w text spa
           let found = lines_at w text spans laid k h some in
           grind (arith, append_assoc, drop-append-le s.start text more, found.1, found.2, items_of_own_lines w k 0 (span_items text s) (found.0 ++ more), laid.propers k h, items_in_small, length_items_in)
 
-  same_image : (more : List ℕ) → image_of (text ++ more) spans ≡ image_of text spans
+  pub same_image : (more : List ℕ) → image_of (text ++ more) spans ≡ image_of text spans
   same_image more = map_agrees (track_of (text ++ more)) (track_of text) spans blank_span (λ k h. let e = same_items more k h in λ i. record { items = e i; marked = is_marked (get_or spans k blank_span); since = taken_since (get_or spans k blank_span) })
 
   module _ (at : ℕ) (inside : at < length spans) (none : (k : ℕ) → k < length spans → at < k → (get_or spans k blank_span).count ≡ 0) (i : Item) (p : proper i ≡ true) (sm : small_item i ≡ true) (s' : Span) (counts : s'.count ≡ suc (get_or spans at blank_span).count) (starts : s'.start ≡ cond (eqb (get_or spans at blank_span).count 0) (length text) (get_or spans at blank_span).start) where
@@ -68,7 +68,7 @@ module _ (w : ℕ) (text : List ℕ) (spans : List Span) (laid : Laid w text spa
     lines_after : drop s'.start (text ++ added) ≡ lines_of w at 0 (items ++ i ∷ [])
     lines_after = grind (arith, common_steps, start_after, text_ends, own_lines)
 
-    items_after : span_items (text ++ added) s' ≡ items ++ i ∷ []
+    pub items_after : span_items (text ++ added) s' ≡ items ++ i ∷ []
     items_after =
         let count : s'.count ≡ length (items ++ i ∷ []) = omega (arith, counts, length_push items i, length_items_in old.count (drop old.start text)) in
         grind (arith, append-nil, lines_after, count, items_of_own_lines w at 0 (items ++ i ∷ []) [], all_proper_push items i, laid.propers at inside, p, all_small_push items i, items_in_small, sm)

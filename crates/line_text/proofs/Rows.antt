@@ -27,7 +27,7 @@ all_proper_push [] i h s = grind arith
 all_proper_push (j ∷ is) i h s = grind (arith, all_proper_push is i)
 
 -- what stands behind a line
-behind_line : (v t n : ℕ) (i : Item) (rest : List ℕ) → proper i ≡ true → drop (size_of_line_in (line v t n i ++ rest)) (line v t n i ++ rest) ≡ rest
+pub behind_line : (v t n : ℕ) (i : Item) (rest : List ℕ) → proper i ≡ true → drop (size_of_line_in (line v t n i ++ rest)) (line v t n i ++ rest) ≡ rest
 behind_line v t n i rest p = grind (arith, drop_at, length_line, size_of_own_line)
 
 pub items_of_own_lines : (w k n : ℕ) (is : List Item) (rest : List ℕ) → all_proper is ≡ true → all_small is ≡ true → items_in (length is) (lines_of w k n is ++ rest) ≡ is

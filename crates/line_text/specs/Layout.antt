@@ -1,5 +1,5 @@
 -- The tracks that lie in a text, line by line, and the text of a list of tracks. Assumes nothing.
-use Rattle.std.specs.Prelude.{◌≡◌, ℕ, zero, suc, ◌+◌, ◌-◌, ◌/◌, ◌%◌, ◌<◌, ◌≤◌, Bool, true, false, cond, ◌&&◌, List, [], ◌∷◌, ◌++◌, map, length, get_or, take, drop, ◌==◌, nat_le, nat_lt, slice_index_or, None, is_some, unwrap_or}
+use Rattle.std.specs.Prelude.{◌≡◌, ℕ, zero, suc, ◌+◌, ◌-◌, ◌/◌, ◌%◌, ◌<◌, ◌≤◌, Bool, true, false, cond, ◌&&◌, List, [], ◌∷◌, ◌++◌, map, length, get_or, take, drop, ◌==◌, nat_le, nat_lt, slice_index_or}
 use Rattle.tape.specs.Items.{Item}
 use Rattle.tape.specs.Tape.{Track, Tape, most_items, last_marker, writes_after}
 use Rattle.tape.specs.Sound.{all_proper}
@@ -12,14 +12,14 @@ items_in zero bs = []
 items_in (suc n) bs = item_in bs ∷ items_in n (drop (size_of_line_in bs) bs)
 
 abbrev pub blank_span : Span
-blank_span = record { start = 0; count = 0; since = None }
+blank_span = record { start = 0; count = 0; marked = false; since = 0 }
 
--- whether a track's marker is met, and the writes taken since: none where it is not met
+-- whether a track's marker is met, and the writes taken since
 abbrev pub is_marked : Span → Bool
-is_marked s = is_some s.since
+is_marked s = s.marked
 
 abbrev pub taken_since : Span → ℕ
-taken_since s = unwrap_or s.since 0
+taken_since s = s.since
 
 abbrev pub span_items : List ℕ → Span → List Item
 span_items text s = items_in s.count (drop s.start text)

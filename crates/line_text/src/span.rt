@@ -5,13 +5,15 @@ ghost use Rattle.line_text.specs.Spans.{one_more, span_after, recorded_span};
 
 use tape::bounds::WRITES_AFTER;
 
-/// A track: where its first line begins, how many items it has and, once its marker is met, the
+/// A track: where its first line begins, how many items it has, whether its marker is met, and the
 /// writes taken since. Of a blank track the beginning says nothing.
+// The last two are no Option, which would ask of callers that an unmarked track has taken none since.
 #[derive(Clone, Copy, PartialEq, Eq, Debug)]
 pub struct Span {
     pub start: usize,
     pub count: usize,
-    pub since: Option<usize>,
+    pub marked: bool,
+    pub since: usize,
 }
 
 impl Span {
@@ -23,7 +25,8 @@ impl Span {
         Span {
             start: 0,
             count: 0,
-            since: None,
+            marked: false,
+            since: 0,
         }
     }
 
@@ -31,7 +34,7 @@ impl Span {
     pub fn marked(self) -> bool
         ensures { result ≡ is_marked self }
     {
-        self.since.is_some()
+        self.marked
     }
 
     // The track with one item more, whose line begins at `end`, where the text ended. Counts stop at
@@ -53,12 +56,11 @@ impl Span {
         ensures { result ≡ span_after self end marker }
     {
         let longer = self.longer(end);
-        let since = match self.since {
-            Some(taken) => Some(taken.saturating_add(1)),
-            None if longer.count == marker => Some(0),
-            None => None,
-        };
-        Span { since, ..longer }
+        Span {
+            marked: self.marked || longer.count == marker,
+            since: self.since.saturating_add(usize::from(self.marked)),
+            ..longer
+        }
     }
 
     /// The track with one item more that was recorded elsewhere: such a track counts as marked, with
@@ -67,7 +69,8 @@ impl Span {
         ensures { result ≡ recorded_span self end }
     {
         Span {
-            since: Some(WRITES_AFTER),
+            marked: true,
+            since: WRITES_AFTER,
             ..self.longer(end)
         }
     }

@@ -2,7 +2,6 @@
 //! may have.
 #![tactic(auto)]
 
-use std::io;
 use tape::bounds::is_size;
 use tape::refusal::Reason;
 
@@ -38,7 +37,7 @@ const SIZES: [(usize, usize); 8] = [
     (2, 50),
 ];
 
-fn run(rt: &impl Print) -> io::Result<()> {
+fn run(rt: &impl Print) -> anyhow::Result<()> {
     for reason in REASONS {
         println!(rt; "refused={:02} layer={}", reason.number(), reason.layer())?;
     }
@@ -58,6 +57,6 @@ fn run(rt: &impl Print) -> io::Result<()> {
     Ok(())
 }
 
-fn main(rt: HostRuntime) -> io::Result<()> {
+fn main(rt: HostRuntime) -> anyhow::Result<()> {
     run(&rt)
 }

@@ -3,6 +3,7 @@ use crate::words::{At, Hex, Next, number, put_hex};
 use case_words::answer::{found, moved, written};
 use case_words::status::StatusWords;
 use std::io;
+use tape::bounds::LONGEST_BLOCK;
 use tape::item::ItemRef;
 use tape::status::Status;
 use tape::transport::Transport;
@@ -31,12 +32,15 @@ impl<R: Print + AllocGlobal, T: Transport> Bench<'_, R, T> {
         println!(self.rt; "{taken} {}", written(last))
     }
 
-    // A block of the bytes given, or of so many times these.
+    // A block of the bytes given, or of so many times these. One that is too long is turned down whatever
+    // its bytes, so they are put no more often than makes it too long.
     fn block(&mut self, argument: &str) -> io::Result<()> {
         let (hex, times) = argument.split_once('*').unwrap_or((argument, "1"));
+        let mut given = Vec::new(self.rt.alloc());
+        put_hex(&mut given, hex);
         let mut bytes = Vec::new(self.rt.alloc());
-        for _ in 0..number(times) {
-            put_hex(&mut bytes, hex)?;
+        for _ in 0..number(times).min(LONGEST_BLOCK / given.len().max(1) + 1) {
+            let _ = bytes.extend_from_slice(given.as_slice());
         }
         let answer = self.tape.write(ItemRef::Block(bytes.as_slice()));
         self.rt.println(written(answer))

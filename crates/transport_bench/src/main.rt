@@ -35,7 +35,7 @@
 //!
 //! The bench begins with a transport as of a bare `new`, and a `new` that is refused keeps the old
 //! one. A number that cannot be read is 0, and digits that cannot be read give no byte. Anything else
-//! is answered `no such command`.
+//! is answered `no such command`. That there is memory for the script's own bytes is taken for granted.
 #![tactic(auto)]
 
 mod bench;
@@ -55,7 +55,7 @@ fn play<R: Print + AllocGlobal>(
     for given in script.split_terminator('\n') {
         match recorded.take() {
             Some(text) if given.starts_with('.') => bench.take(text, given)?,
-            Some(text) => recorded = Some(own::with_line(text, given)?),
+            Some(text) => recorded = Some(own::with_line(text, given)),
             None => {
                 if given == "take" {
                     recorded = Some(Vec::new(bench.rt.alloc()));

@@ -6,7 +6,6 @@ use case_words::blank::is_blank;
 use case_words::settings::USUAL;
 use line::line_transport::LineTransport;
 use line::settings::Settings;
-use std::alloc::AllocError;
 use std::io;
 use tape::refusal::SetupError;
 
@@ -28,10 +27,10 @@ pub(crate) fn settings(argument: &str) -> Settings {
 }
 
 /// A recorded text with a line more.
-pub(crate) fn with_line(mut recorded: Vec<u8>, line: &str) -> Result<Vec<u8>, AllocError> {
-    recorded.extend_from_slice(line.as_bytes())?;
-    recorded.push(b'\n')?;
-    Ok(recorded)
+pub(crate) fn with_line(mut recorded: Vec<u8>, line: &str) -> Vec<u8> {
+    let _ = recorded.extend_from_slice(line.as_bytes());
+    let _ = recorded.push(b'\n');
+    recorded
 }
 
 impl<R: Print + AllocGlobal> Bench<'_, R, LineTransport> {
@@ -60,13 +59,14 @@ impl<R: Print + AllocGlobal> Bench<'_, R, LineTransport> {
     pub(crate) fn take(&mut self, mut recorded: Vec<u8>, dot: &str) -> io::Result<()> {
         if dot != "." {
             let _ = recorded.pop();
-            put_hex(&mut recorded, dot.strip_prefix('.').unwrap_or(""))?;
+            put_hex(&mut recorded, dot.strip_prefix('.').unwrap_or(""));
         }
         self.offer(recorded.as_slice())
     }
 
     fn again(&mut self) -> io::Result<()> {
-        let text = self.tape.text().to_vec(self.rt.alloc())?;
+        let mut text = Vec::new(self.rt.alloc());
+        let _ = text.extend_from_slice(self.tape.text());
         self.offer(text.as_slice())
     }
 

@@ -1,5 +1,4 @@
 //! Answers in words, and numbers and bytes that are given in words.
-use std::alloc::AllocError;
 use std::fmt;
 use tape::item::Kind;
 use tape::place::Place;
@@ -77,6 +76,6 @@ fn byte(pair: &[u8]) -> Option<u8> {
 }
 
 /// Adds bytes that are given in hex, as far as they can be read.
-pub(crate) fn put_hex(bytes: &mut Vec<u8>, hex: &str) -> Result<(), AllocError> {
-    bytes.extend(hex.as_bytes().chunks(2).filter_map(byte))
+pub(crate) fn put_hex(bytes: &mut Vec<u8>, hex: &str) {
+    let _ = bytes.extend(hex.as_bytes().chunks(2).filter_map(byte));
 }

@@ -64,7 +64,10 @@ impl<'a> LabelRef<'a> {
 pub fn parse(block: &[u8]) -> Result<LabelRef<'_>, Reason>
     ensures { told result ≡ reading block.now }
 {
-    let (first, rest) = block.split_first().ok_or(Reason::BadLabel)?;
+    // a slice pattern: the first byte as the kind, the rest as the fields
+    let [first, rest @ ..] = block else {
+        return Err(Reason::BadLabel);
+    };
     let kind = LabelKind::try_from(*first)?;
     let parts = Parts::of(rest).ok_or(Reason::BadLabel)?;
     if parts.are_lawful() && kind.allows(parts.count()) {

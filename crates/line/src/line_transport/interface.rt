@@ -38,6 +38,7 @@ impl Transport for LineTransport {
         ensures exact { Exactly (write (line_choice self.old (item_of item.entry)) (line_tape self.old) (item_of item.entry)) (result, line_tape self.new) }
         ensures settings { settings_of self.new ≡ settings_of self.old }
     {
+        self.applies(true)?;
         self.applies(self.can_record(item))?;
         if !self.has_room(item) {
             self.failed = true;
@@ -51,6 +52,7 @@ impl Transport for LineTransport {
         ensures exact { Exactly (next_track sure (line_tape self.old)) (result, line_tape self.new) }
         ensures settings { settings_of self.new ≡ settings_of self.old }
     {
+        self.applies(true)?;
         self.applies(self.has_next_track())?;
         self.head_to_track(self.head.at + 1);
         Ok(())
@@ -61,6 +63,7 @@ impl Transport for LineTransport {
         ensures exact { Exactly (mount sure (line_tape self.old)) (result, line_tape self.new) }
         ensures settings { settings_of self.new ≡ settings_of self.old }
     {
+        self.applies(true)?;
         self.applies(self.can_mount())?;
         self.add_volume();
         Ok(())

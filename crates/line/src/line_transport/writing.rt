@@ -15,7 +15,8 @@ impl LineTransport {
     pub(super) fn can_record(&self, item: ItemRef<'_>) -> bool
         ensures { result ≡ (at_end (line_tape self.now) && takes (here (line_tape self.now)) (item_of item.entry)) }
     {
-        self.is_at_end() && item.is_taken(self.span(self.head.at).since)
+        let span = self.span(self.head.at);
+        self.is_at_end() && item.is_taken(span.marked.then_some(span.since))
     }
 
     // Whether its line fits the text.

@@ -7,6 +7,9 @@ use Rattle.line.proofs.line_transport.interface.LineTransportTransport.mount.Goa
 pub returns-in_err-applies-clause-does : goal.returns-in_err-applies-clause-does
 returns-in_err-applies-clause-does c = (sure, search rules)
 
+pub returns-in_err-applies-2-clause-does : goal.returns-in_err-applies-2-clause-does
+returns-in_err-applies-2-clause-does c = (sure, search rules)
+
 pub returns-clause-does : goal.returns-clause-does
 returns-clause-does c = (sure, search rules)
 
@@ -14,4 +17,4 @@ pub add_volume-requires : goal.add_volume-requires
 add_volume-requires c =
     let x = c.args.self.now in
     let t = line_tape x in
-    ltb-true 0 t.left (and_parts (any_items t && at_end t && on_last_track t) (ltb 0 t.left) (sym c.can_mount.ensures ∙ c.in_ok-applies.ensures.1)).1
+    ltb-true 0 t.left (and_parts (any_items t && at_end t && on_last_track t) (ltb 0 t.left) (sym c.can_mount.ensures ∙ c.in_ok-applies-2.ensures.1)).1

@@ -5,5 +5,8 @@ use Rattle.line.proofs.line_transport.interface.LineTransportTransport.next_trac
 pub returns-in_err-applies-clause-does : goal.returns-in_err-applies-clause-does
 returns-in_err-applies-clause-does c = (sure, search rules)
 
+pub returns-in_err-applies-2-clause-does : goal.returns-in_err-applies-2-clause-does
+returns-in_err-applies-2-clause-does c = (sure, search rules)
+
 pub returns-clause-does : goal.returns-clause-does
 returns-clause-does c = (sure, search rules)
