@@ -32,15 +32,15 @@ impl<R: Print + AllocGlobal, T: Transport> Bench<'_, R, T> {
         println!(self.rt; "{taken} {}", written(last))
     }
 
-    // A block of the bytes given, or of so many times these. One that is too long is turned down whatever
-    // its bytes, so they are put no more often than makes it too long.
+    // A block of the bytes given, or of so many times these: until it is too long, since it is then turned
+    // down whatever its other bytes.
     fn block(&mut self, argument: &str) -> io::Result<()> {
         let (hex, times) = argument.split_once('*').unwrap_or((argument, "1"));
-        let mut given = Vec::new(self.rt.alloc());
-        put_hex(&mut given, hex);
         let mut bytes = Vec::new(self.rt.alloc());
-        for _ in 0..number(times).min(LONGEST_BLOCK / given.len().max(1) + 1) {
-            let _ = bytes.extend_from_slice(given.as_slice());
+        for _ in 0..number(times) {
+            if !put_hex(&mut bytes, hex) || LONGEST_BLOCK < bytes.len() {
+                break;
+            }
         }
         let answer = self.tape.write(ItemRef::Block(bytes.as_slice()));
         self.rt.println(written(answer))

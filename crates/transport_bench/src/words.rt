@@ -75,7 +75,13 @@ fn byte(pair: &[u8]) -> Option<u8> {
     u8::from_str_radix(std::str::from_utf8(pair).ok()?, 16).ok()
 }
 
-/// Adds bytes that are given in hex, as far as they can be read.
-pub(crate) fn put_hex(bytes: &mut Vec<u8>, hex: &str) {
-    let _ = bytes.extend(hex.as_bytes().chunks(2).filter_map(byte));
+/// Adds bytes that are given in hex, as far as they can be read; tells whether there is one.
+pub(crate) fn put_hex(bytes: &mut Vec<u8>, hex: &str) -> bool {
+    let mut any = false;
+    // byte by byte: where there is no memory for one, it alone is left out
+    for b in hex.as_bytes().chunks(2).filter_map(byte) {
+        any = true;
+        let _ = bytes.push(b);
+    }
+    any
 }

@@ -17,7 +17,8 @@ use tape::transport::{Fault, Transport};
 
 impl LineTransport {
     // A function goes on only where it applies, here and in a transport that has not failed: as in
-    // `attempt`, `here` is true of those that only a failure turns down.
+    // `attempt`, `here` is true of those that only a failure turns down. Where `here` takes work, the
+    // failure is asked first by itself, so that a transport that has failed works nothing out.
     fn applies(&self, here: bool) -> Result<(), Fault>
         ensures { MatchResult result (λ _. (self.now.failed ≡ false) × (here ≡ true)) (λ fault. (fault ≡ Fault.TurnedDown) × ((self.now.failed ≡ true) ⊎ (here ≡ false))) }
     {
